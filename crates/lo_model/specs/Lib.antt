@@ -1,0 +1,10 @@
+pub mod Clock
+pub mod Database
+pub mod Edit
+pub mod Levels
+pub mod Object
+pub mod Opening
+pub mod Row
+pub mod Stored
+pub mod Touch
+pub mod View
