@@ -1,5 +1,5 @@
 -- What `text` leaves where it finds no memory.
-use Rattle.std.proofs.Common.{◌≡◌, ℕ, List, ◌++◌, length, take, ap, sym, ◌∙◌}
+use Rattle.std.proofs.Common.{◌≡◌, ℕ, List, ◌++◌, length}
 use Rattle.std.proofs.Math.Seq.{take-append_seam}
 use Rattle.lo_base.specs.Appended.{AddsFront}
 

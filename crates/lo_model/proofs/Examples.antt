@@ -1,20 +1,18 @@
 -- Worked examples of the definitions, each computed by the checker: a wrong one fails the crate.
 use Rattle.std.proofs.Common.{◌≡◌, refl, ℕ, pos, true, false, List, [], ◌∷◌, ◌++◌, Some, None, replicate}
 use Rattle.lo_base.specs.declared.value.Value.TheVariants.{Int}
-use Rattle.lo_base.specs.declared.value.Value.TheVariants.{Bytes as BytesValue}
-use Rattle.lo_base.specs.declared.column.Column.{Column}
 use Rattle.lo_model.specs.declared.owner.Owner.{Owner}
 use Rattle.lo_model.specs.declared.owner.Owner.TheVariants.{Running, Committed}
 use Rattle.lo_model.specs.declared.viewer.Viewer.TheVariants.{Nobody, Whole, Below}
 use Rattle.lo_model.specs.Clock.{clock_after}
-use Rattle.lo_model.specs.Edit.{Deed, Create, Write, Cut, Unlink, Put, Delete, Edit, edits_by, deeds}
+use Rattle.lo_model.specs.Edit.{Deed, Create, Write, Cut, Unlink, Put, Delete, Edit, edits_by}
 use Rattle.lo_model.specs.View.{view}
 use Rattle.lo_model.specs.Object.{object_in, object_after_all}
-use Rattle.lo_model.specs.Row.{Row, row_in}
-use Rattle.lo_model.specs.Stored.{stored_anew, stored_after_update}
-use Rattle.lo_model.specs.Touch.{Touched, Blocks, BlocksFrom, RowOf, RowsOf, Nothing, Block, RowAt, touched, covers, meets, busy_with}
+use Rattle.lo_model.specs.Row.{row_in}
+use Rattle.lo_model.specs.Stored.{stored_after_update}
+use Rattle.lo_model.specs.Touch.{Blocks, RowsOf, Nothing, touched, meets, busy_with}
 use Rattle.lo_model.specs.Levels.{released, undone, committed, aborted}
-use Rattle.lo_model.specs.Opening.{ObjectBytes, Opening, TableRows, object_deeds, opened}
+use Rattle.lo_model.specs.Opening.{object_deeds}
 
 abbrev made_at : ℕ → Owner → Deed → Edit Deed
 made_at clock owner deed = record { clock = clock; owner = owner; deed = deed }

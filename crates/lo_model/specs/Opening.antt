@@ -5,7 +5,7 @@ use Rattle.lo_base.specs.declared.value.Value.TheVariants.{Int}
 use Rattle.lo_base.specs.declared.column.Column.{Column}
 use Rattle.lo_model.specs.declared.owner.Owner.TheVariants.{Committed}
 use Rattle.lo_model.specs.Edit.{Deed, Create, Write, Cut, Put, edits_by}
-use Rattle.lo_model.specs.Database.{Table, Database}
+use Rattle.lo_model.specs.Database.{Database}
 use Rattle.lo_model.specs.Stored.{stored_anew}
 use Rattle.lo_model.specs.Touch.{block_bytes}
 
@@ -59,7 +59,7 @@ abbrev pub object_deeds : ObjectBytes → List Deed
 object_deeds object =
     Create object.oid
     ∷ (map (λ b. Write object.oid (block_bytes * b) (block_of object.bytes b)) (written_blocks object.bytes)
-       ++ (if needs_cut object.bytes then Cut object.oid (length object.bytes) ∷ [] else []))
+    ++ (if needs_cut object.bytes then Cut object.oid (length object.bytes) ∷ [] else []))
 
 -- a row's id is the value of its first column
 abbrev pub id_of : List Value → ℤ

@@ -5,5 +5,4 @@ ghost use Rattle.lo_model.specs.Touch.{Touched, Place, covers, meets, SharesPlac
 pub fn conflicts()
     ensures shared { (a b : Touched) → meets a b ≡ true → SharesPlace a b }
     ensures met { (a b : Touched) (place : Place) → covers a place ≡ true → covers b place ≡ true → meets a b ≡ true }
-{
-}
+{}

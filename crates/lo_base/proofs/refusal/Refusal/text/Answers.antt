@@ -1,5 +1,5 @@
 -- What stands in `out` where the number or the ending found no memory: the pieces before it, which the text begins with.
-use Rattle.std.proofs.Common.{◌≡◌, ◌++◌, refl, ap, sym, ◌∙◌, append_assoc, rules}
+use Rattle.std.proofs.Common.{◌≡◌, ◌++◌, refl, append_assoc, rules}
 use Rattle.std.proofs.lemmas.Result.{err_from_is_err_and}
 use Rattle.std.specs.Fmt.{signed_decimal}
 use Rattle.lo_base.specs.Cause.{opening_of, ending_of}
