@@ -1,0 +1,14 @@
+use Rattle.std.specs.Prelude.{◌≡◌, ℕ, ◌+◌, ◌-◌, ◌<◌, ◌≤◌, List, length, slice_index}
+use Rattle.lo_machine.specs.declared.running.Running.TheInside.{Inside}
+use Rattle.lo_machine.specs.Engine.{StandsFor}
+use Rattle.lo_machine.specs.Replay.{Play, Replays, moment_of}
+
+abbrev pub play_of : Inside → Play
+play_of r = record { programs = r.programs; schedule = r.schedule.items; replies = r.replies.items }
+
+-- What every run keeps.
+pub record IsReplay (r : Inside) : Type 0 where
+  pub replays : Replays (play_of r)
+  pub stands : StandsFor r.engine (moment_of (play_of r)).state
+  pub sessions : length r.lines_done.items ≡ 16
+  pub lines_done : (place : ℕ) → place < 16 → slice_index r.lines_done.items place ≡ (moment_of (play_of r)).lines_done (place + 1)

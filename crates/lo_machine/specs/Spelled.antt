@@ -1,0 +1,21 @@
+use Rattle.std.specs.Prelude.{◌≡◌, ℕ, ℤ, pos, negsuc, ◌≤◌, List, length, Option, Some, None}
+use Rattle.lo_base.specs.declared.request.Request.{Request}
+use Rattle.lo_base.specs.declared.request.Request.TheVariants.{LoCreate, LoPut, LoGet}
+
+-- The requests that a script can spell so far: objects are numbered from 1, a put begins at most 8388608 bytes into its
+-- object and has at most as many, and a get asks for all bytes.
+abbrev pub put_limit : ℕ
+put_limit = 8388608
+
+abbrev pub IsPutPlace : ℤ → Type 0
+IsPutPlace (pos at) = at ≤ put_limit
+IsPutPlace (negsuc n) = ⊥
+
+abbrev pub IsWhole : ℤ → Option ℤ → Type 0
+IsWhole from None = from ≡ pos 0
+IsWhole from (Some length) = ⊥
+
+abbrev pub IsSpelled : Request → Type 0
+IsSpelled (LoCreate o) = 1 ≤ o
+IsSpelled (LoPut o at bytes) = IsPutPlace at × (length bytes ≤ put_limit)
+IsSpelled (LoGet o from length) = IsWhole from length

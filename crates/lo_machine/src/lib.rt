@@ -1,0 +1,12 @@
+//! The machine that serves requests: the engine, which does one request after another, and the run of sixteen
+//! sessions' programs under a schedule, which replays by its type.
+#![tactic(auto)]
+
+mod engine;
+mod object;
+mod programs;
+mod running;
+
+pub use engine::Engine;
+pub use programs::Programs;
+pub use running::{Finished, Replies, Running, Schedule};

@@ -1,0 +1,111 @@
+ghost use Rattle.std.specs.Prelude.{◌≡◌, ◌≤◌, ◌+◌, ◌↔◌, List, [], length, IsTrue, IfOk, OnOk, OnErr};
+ghost use Rattle.lo_machine.specs.Program.{program_of};
+ghost use Rattle.lo_machine.specs.Replay.{Play, HasLine, Replays, Advances, moment_of};
+
+use std::alloc::Global;
+use std::marker::Model;
+
+use lo_base::{ListOf, NoMemory, Reply, SESSIONS, SessionNo};
+
+use crate::engine::Engine;
+use crate::programs::Programs;
+
+/// The session of each advance, in the order made.
+pub type Schedule = ListOf<SessionNo>;
+
+/// The reply to each advance, with its session.
+pub type Replies = ListOf<(SessionNo, Reply)>;
+
+/// Programs that are being run. Replaying them over the schedule so far gives the replies so far, and the engine stands
+/// for the state at its end.
+#[derive(Drop)]
+pub struct Running {
+    programs: Programs,
+    /// For each session how many lines of its program are done.
+    lines_done: Vec<usize>,
+    schedule: Vec<SessionNo>,
+    replies: Vec<(SessionNo, Reply)>,
+    engine: Engine,
+}
+
+/// What a run leaves.
+#[derive(Drop)]
+pub struct Finished {
+    pub schedule: Schedule,
+    pub replies: Replies,
+}
+
+impl Model for Running {
+    ghost use Rattle.lo_machine.specs.Replay.{Play};
+
+    ghost Value = { Play };
+
+    ghost use Rattle.lo_machine.specs.Running.{play_of, IsReplay};
+
+    ghost view = { play_of };
+
+    ghost invariant = { IsReplay };
+}
+
+impl Running {
+    /// Programs before their first advance, on the empty database.
+    pub fn start(alloc: Global, programs: Programs) -> Result<Running, NoMemory>
+        ensures { IfOk result (λ run. run ≡ record { programs = programs; schedule = []; replies = [] }) }
+    {
+        let mut lines_done = Vec::new(alloc);
+        lines_done.resize(SESSIONS as usize, 0)?;
+        Ok(Running {
+            programs,
+            lines_done,
+            schedule: Vec::new(alloc),
+            replies: Vec::new(alloc),
+            engine: Engine::start(alloc)?,
+        })
+    }
+
+    /// Whether the session has no line left.
+    pub fn is_done(&self, s: SessionNo) -> bool
+        ensures { IsTrue result ↔ ¬ HasLine self.now s }
+    {
+        self.lines_done[s.place()] >= self.programs.lines(s).len()
+    }
+
+    /// The place of the session's next line in its program, from 1: one more than the program's length where the session
+    /// is done.
+    pub fn line(&self, s: SessionNo) -> u64
+        ensures { result ≡ (moment_of self.now).lines_done s + 1 }
+    {
+        self.lines_done[s.place()] as u64 + 1
+    }
+
+    /// Does the session's next line.
+    pub fn advance(&mut self, s: SessionNo) -> Result<(), NoMemory>
+        requires { HasLine self.old s }
+        ensures ok { OnOk result (Advances s self.old self.new) }
+        ensures err { OnErr result (self.new ≡ self.old) }
+    {
+        let place = s.place();
+        let Some(request) = self.programs.lines(s).get(self.lines_done[place]) else {
+            unreachable!()
+        };
+        self.schedule.reserve(1)?;
+        self.replies.reserve(1)?;
+        let reply = self.engine.step(s, request)?;
+        self.schedule.push_reserved(s);
+        self.replies.push_reserved((s, reply));
+        self.lines_done[place] += 1;
+        Ok(())
+    }
+
+    /// The schedule and the replies of the whole run.
+    pub fn finish(self) -> Result<Finished, NoMemory>
+        ensures schedule { IfOk result (λ end. end.schedule ≡ self.schedule) }
+        ensures replies { IfOk result (λ end. end.replies ≡ self.replies) }
+        ensures replays { Replays self }
+    {
+        Ok(Finished {
+            schedule: ListOf::from_vec(self.schedule),
+            replies: ListOf::from_vec(self.replies),
+        })
+    }
+}
