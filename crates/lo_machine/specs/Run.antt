@@ -1,4 +1,4 @@
-use Rattle.std.specs.Prelude.{◌≡◌, ℕ, ◌+◌, ◌==◌, List, [], ◌∷◌, ◌++◌, Option, Some, None, IsSome, slice_get, if◌then◌else◌}
+use Rattle.std.specs.Prelude.{◌≡◌, ℕ, ◌+◌, ◌==◌, ◌≤◌, List, [], ◌∷◌, ◌++◌, length, count_by, All, Option, Some, None, IsSome, slice_get, if◌then◌else◌}
 use Rattle.lo_base.specs.declared.reply.Reply.{Reply}
 use Rattle.lo_base.specs.declared.request.Request.{Request}
 use Rattle.lo_model.specs.Database.{Database}
@@ -57,10 +57,16 @@ IsPlayable programs m [] = Unit {0}
 IsPlayable programs m (s ∷ schedule) =
     IsSome (next_line programs m s) × IsPlayable programs (moment_after m s (next_line programs m s)) schedule
 
--- a schedule is whole where each of its advances is defined, and at its end no session has a line left
+-- a schedule is whole where each of its advances is defined, and at its end no session has a line left. Sessions are
+-- numbered from 1
 pub record IsWhole (programs : List (List Request)) (schedule : List ℕ) : Type 0 where
   pub playable : IsPlayable programs start schedule
-  pub complete : (session : ℕ) → next_line programs (end_of programs schedule) session ≡ None
+  pub complete : (session : ℕ) → 1 ≤ session → next_line programs (end_of programs schedule) session ≡ None
+
+-- an order of programs names each session once for each line of its program
+pub record IsOrderOf (programs : List (List Request)) (order : List ℕ) : Type 0 where
+  pub sessions : All (λ session. 1 ≤ session) order
+  pub lines : (session : ℕ) → 1 ≤ session → length (program_of programs session) ≡ count_by (λ entry. entry == session) order
 
 -- The schedule of a script advances, for each entry of its order, that session until its line is over. Each of the
 -- requests so far is over after one advance.

@@ -1,6 +1,7 @@
 use Rattle.std.specs.Prelude.{◌≡◌, ℕ, ◌+◌, ◌-◌, ◌<◌, ◌≤◌, List, length, slice_index}
 use Rattle.lo_machine.specs.declared.running.Running.TheInside.{Inside}
 use Rattle.lo_machine.specs.Engine.{StandsFor}
+use Rattle.lo_machine.specs.Program.{program_of}
 use Rattle.lo_machine.specs.Replay.{Play, Replays, moment_of}
 
 abbrev pub play_of : Inside → Play
@@ -11,4 +12,5 @@ pub record IsReplay (r : Inside) : Type 0 where
   pub replays : Replays (play_of r)
   pub stands : StandsFor r.engine (moment_of (play_of r)).state
   pub sessions : length r.lines_done.items ≡ 16
+  pub within : (place : ℕ) → place < 16 → slice_index r.lines_done.items place ≤ length (program_of r.programs (place + 1))
   pub lines_done : (place : ℕ) → place < 16 → slice_index r.lines_done.items place ≡ (moment_of (play_of r)).lines_done (place + 1)

@@ -31,6 +31,7 @@ impl Engine {
     }
 
     /// Does one request of a session, as a transaction of its own.
+    #[tactic(auto, using(crate::proofs::Serving::serves_create, crate::proofs::Serving::serves_put, crate::proofs::Serving::serves_get))]
     pub fn step(&mut self, s: SessionNo, request: &Request) -> Result<Reply, NoMemory>
         requires { IsSpelled request.now }
         ensures { Serves self.old self.new s request.now result }

@@ -3,10 +3,12 @@
 #![tactic(auto)]
 
 mod engine;
+mod law;
 mod object;
 mod programs;
 mod running;
 
 pub use engine::Engine;
+pub use law::orders_are_whole;
 pub use programs::Programs;
 pub use running::{Finished, Replies, Running, Schedule};

@@ -33,7 +33,7 @@ impl Programs {
         ensures { IfOk result (λ programs. programs ≡ replicate 16 []) }
     {
         let mut lists = Vec::with_capacity(alloc, SESSIONS as usize)?;
-        for _ in 0..SESSIONS {
+        for _session in 0..SESSIONS {
             lists.push(ListOf::new(alloc))?;
         }
         Ok(Programs { alloc, lists })

@@ -75,7 +75,10 @@ impl Running {
     pub fn line(&self, s: SessionNo) -> u64
         ensures { result ≡ (moment_of self.now).lines_done s + 1 }
     {
-        self.lines_done[s.place()] as u64 + 1
+        let lines = self.programs.lines(s);
+        let done = self.lines_done[s.place()];
+        prove!(done <= lines.len());
+        done as u64 + 1
     }
 
     /// Does the session's next line.
@@ -85,15 +88,14 @@ impl Running {
         ensures err { OnErr result (self.new ≡ self.old) }
     {
         let place = s.place();
-        let Some(request) = self.programs.lines(s).get(self.lines_done[place]) else {
-            unreachable!()
-        };
+        let done = self.lines_done[place];
+        let request = &self.programs.lines(s)[done];
         self.schedule.reserve(1)?;
         self.replies.reserve(1)?;
         let reply = self.engine.step(s, request)?;
         self.schedule.push_reserved(s);
         self.replies.push_reserved((s, reply));
-        self.lines_done[place] += 1;
+        self.lines_done[place] = done + 1;
         Ok(())
     }
 

@@ -1,0 +1,4 @@
+mod Examples
+pub mod Orders
+pub mod Replaying
+pub mod Serving

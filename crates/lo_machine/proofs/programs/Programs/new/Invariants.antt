@@ -1,0 +1,5 @@
+use Rattle.std.proofs.Common.{◌≡◌, replicate, [], vec_len}
+use Rattle.lo_machine.proofs.programs.Programs.new.Given as goal
+
+abbrev pub invariant-loop-session : goal.invariant-loop-session
+invariant-loop-session l = l.lists.items ≡ replicate l._session []
