@@ -11,6 +11,8 @@ mod reply;
 mod request;
 mod session;
 mod steps;
+#[cfg(test)]
+mod tests;
 mod value;
 
 pub use column::{ColType, Column, ColumnList, Storage};
