@@ -37,9 +37,9 @@ done_elsewhere s t count other = grind (arith, nat_tests, other)
 covered_more : (programs : List (List Request)) (m : Moment) (t : ℕ) (rest : List ℕ) (line : Option Request) → IsSome line → Covers programs m (t ∷ rest) → Covers programs (moment_after m t line) rest
 covered_more programs m t rest None some h s low = absurd (grind (arith, some))
 covered_more programs m t rest (Some request) some h s low = elim (cases_eq t s) [
-  inl same ↦ omega (arith, h s low, count_here s t rest same, done_here s t m.lines_done same)
+  | inl same ↦ omega (arith, h s low, count_here s t rest same, done_here s t m.lines_done same)
   | inr other ↦ omega (arith, h s low, count_elsewhere s t rest other, done_elsewhere s t m.lines_done other)
-  ]
+]
 
 left_here : (programs : List (List Request)) (m : Moment) (t : ℕ) (rest : List ℕ) → 1 ≤ t → Covers programs m (t ∷ rest) → IsSome (next_line programs m t)
 left_here programs m t rest low h = some_line (program_of programs t) (m.lines_done t) (omega (arith, h t low, count_here t t rest refl))

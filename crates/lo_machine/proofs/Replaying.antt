@@ -57,32 +57,32 @@ replies_at_line s place request reply old new by = rw (by.line, by.answer) refl
 
 done_at : (s place : ℕ) (request : Request) (reply : Reply) (old new : Inside) → IsReplay old → AdvancedBy s place request reply old new → (p : ℕ) → p < 16 → get_or new.lines_done.items p 0 ≡ one_more s (moment_of (play_of old)).lines_done (p + 1)
 done_at s place request reply old new keeps by p low = elim (cases_eq p place) [
-  inl same ↦
-    let here : place < length old.lines_done.items = omega (arith, keeps.sessions, by.within) in
-    rw (by.lines_done, same, get_or-set_same old.lines_done.items place (get_or old.lines_done.items place 0 + 1) 0 here, keeps.lines_done place by.within)
-    (sym (done_here s (moment_of (play_of old)).lines_done (place + 1) (sym by.session)))
+  | inl same ↦
+      let here : place < length old.lines_done.items = omega (arith, keeps.sessions, by.within) in
+      rw (by.lines_done, same, get_or-set_same old.lines_done.items place (get_or old.lines_done.items place 0 + 1) 0 here, keeps.lines_done place by.within)
+      (sym (done_here s (moment_of (play_of old)).lines_done (place + 1) (sym by.session)))
   | inr other ↦
-    rw (by.lines_done, get_or-set_other old.lines_done.items place p (get_or old.lines_done.items place 0 + 1) 0 other, keeps.lines_done p low)
-    (sym (done_elsewhere s (moment_of (play_of old)).lines_done (p + 1) (omega (arith, by.session, other))))
-  ]
+      rw (by.lines_done, get_or-set_other old.lines_done.items place p (get_or old.lines_done.items place 0 + 1) 0 other, keeps.lines_done p low)
+      (sym (done_elsewhere s (moment_of (play_of old)).lines_done (p + 1) (omega (arith, by.session, other))))
+]
 
 within_at : (s place : ℕ) (request : Request) (reply : Reply) (old new : Inside) → IsReplay old → AdvancedBy s place request reply old new → (p : ℕ) → p < 16 → get_or new.lines_done.items p 0 ≤ length (program_of new.programs (p + 1))
 within_at s place request reply old new keeps by p low = elim (cases_eq p place) [
-  inl same ↦
-    let here : place < length old.lines_done.items = omega (arith, keeps.sessions, by.within) in
-    let left : (moment_of (play_of old)).lines_done s < length (program_of old.programs s) = slice_get_within (program_of old.programs s) ((moment_of (play_of old)).lines_done s) request by.line in
-    let left' : (moment_of (play_of old)).lines_done (place + 1) < length (program_of old.programs (place + 1)) = subst (λ (t : ℕ). (moment_of (play_of old)).lines_done t < length (program_of old.programs t)) by.session left in
-    rw (by.programs, by.lines_done, same, get_or-set_same old.lines_done.items place (get_or old.lines_done.items place 0 + 1) 0 here, keeps.lines_done place by.within)
-    (omega (arith, left'))
+  | inl same ↦
+      let here : place < length old.lines_done.items = omega (arith, keeps.sessions, by.within) in
+      let left : (moment_of (play_of old)).lines_done s < length (program_of old.programs s) = slice_get_within (program_of old.programs s) ((moment_of (play_of old)).lines_done s) request by.line in
+      let left' : (moment_of (play_of old)).lines_done (place + 1) < length (program_of old.programs (place + 1)) = subst (λ (t : ℕ). (moment_of (play_of old)).lines_done t < length (program_of old.programs t)) by.session left in
+      rw (by.programs, by.lines_done, same, get_or-set_same old.lines_done.items place (get_or old.lines_done.items place 0 + 1) 0 here, keeps.lines_done place by.within)
+      (omega (arith, left'))
   | inr other ↦
-    rw (by.programs, by.lines_done, get_or-set_other old.lines_done.items place p (get_or old.lines_done.items place 0 + 1) 0 other) (keeps.within p low)
-  ]
+      rw (by.programs, by.lines_done, get_or-set_other old.lines_done.items place p (get_or old.lines_done.items place 0 + 1) 0 other) (keeps.within p low)
+]
 
 pub advanced : (s place : ℕ) (request : Request) (reply : Reply) (old new : Inside) → IsReplay old → AdvancedBy s place request reply old new → IsReplay new
 advanced s place request reply old new keeps by = record {
   replays =
-    rw (by.replies, by.programs, by.schedule, replies_more old.programs start old.schedule.items s, keeps.replays)
-    (ap (λ more. replies_of old.programs old.schedule.items ++ more) (sym (replies_at_line s place request reply old new by)));
+      rw (by.replies, by.programs, by.schedule, replies_more old.programs start old.schedule.items s, keeps.replays)
+      (ap (λ more. replies_of old.programs old.schedule.items ++ more) (sym (replies_at_line s place request reply old new by)));
   stands = subst (λ (m : Moment). StandsFor new.engine m.state) (sym (moment_more s place request reply old new by)) by.stands;
   sessions = rw (by.lines_done, length-set) keeps.sessions;
   within = within_at s place request reply old new keeps by;
@@ -95,6 +95,7 @@ advances s place request reply old new seen is by = subst (λ (play : Play). Adv
   programs = by.programs;
   schedule = by.schedule;
   replies = by.replies ∙ ap (λ more. old.replies.items ++ more) (sym (replies_at_line s place request reply old new by));
+  moment = moment_more s place request reply old new by ∙ ap (moment_after (moment_of (play_of old)) s) (sym by.line);
 }
 
 -- want of memory leaves the lists, and an engine that stands for the same states

@@ -77,9 +77,10 @@ stands_next old new st ds stands does = record {
 serves : (old new : Engine) (s o : ℕ) (request : Request) (by : Option (List ℕ) → Outcome) (result : Result Reply NoMemory) → ((st : State) → outcome st s request ≡ by (object_now st s o)) → Does old new (by (kept old o)) result → Serves old new s request result
 serves old new s o request by result is does = record {
   ok = IfOk-weaker result _ _ (λ reply done st stands.
-    let same : by (kept old o) ≡ outcome st s request = ap by (kept_now old st s o stands) ∙ sym (is st) in
-    (done.0 ∙ ap (λ (out : Outcome). out.reply) same,
-     subst (λ (out : Outcome). StandsFor new (after_deeds st out.deeds)) same (stands_next old new st (by (kept old o)).deeds stands done.1))) does.ok;
+      let same : by (kept old o) ≡ outcome st s request = ap by (kept_now old st s o stands) ∙ sym (is st) in (
+        done.0 ∙ ap (λ (out : Outcome). out.reply) same,
+        subst (λ (out : Outcome). StandsFor new (after_deeds st out.deeds)) same (stands_next old new st (by (kept old o)).deeds stands done.1),
+      )) does.ok;
   err = on_err_weaker result (λ stays st stands. record { past = stands.past; objects = λ p. stays p ∙ stands.objects p }) does.err;
 }
 

@@ -2,7 +2,7 @@ use Rattle.std.specs.Prelude.{◌≡◌, ℕ, ◌≤◌, ◌-◌, List, [], ◌�
 use Rattle.lo_base.specs.declared.reply.Reply.{Reply}
 use Rattle.lo_base.specs.declared.request.Request.{Request}
 use Rattle.lo_machine.specs.Program.{program_of}
-use Rattle.lo_machine.specs.Run.{Moment, next_line, replies_at, replies_of, end_of}
+use Rattle.lo_machine.specs.Run.{Moment, next_line, moment_after, replies_at, replies_of, end_of}
 use Rattle.lo_machine.specs.Spelled.{IsSpelled}
 
 -- What contracts see of a run: the programs that it was given, the schedule so far, and the replies, each with its
@@ -30,3 +30,4 @@ pub record Advances (session : ℕ) (old new : Play) : Type 0 where
   pub programs : new.programs ≡ old.programs
   pub schedule : new.schedule ≡ old.schedule ++ session ∷ []
   pub replies : new.replies ≡ old.replies ++ replies_at (moment_of old) session (next_line old.programs (moment_of old) session)
+  pub moment : moment_of new ≡ moment_after (moment_of old) session (next_line old.programs (moment_of old) session)

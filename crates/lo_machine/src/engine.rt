@@ -4,13 +4,11 @@ ghost use Rattle.lo_machine.specs.Run.{start};
 ghost use Rattle.lo_machine.specs.Spelled.{IsSpelled, IsPutPlace, IsWhole, put_limit};
 ghost use Rattle.lo_machine.specs.Step.{created, put, got, place_of};
 
+use crate::object::laid_over;
+use lo_base::{Bytes, Cause, ListOf, NoMemory, Oid, Refusal, Reply, Request, SessionNo, Word};
 use std::alloc::Global;
 use std::collections::BTreeMap;
 use std::collections::btree_map::Entry;
-
-use lo_base::{Bytes, Cause, ListOf, NoMemory, Oid, Refusal, Reply, Request, SessionNo, Word};
-
-use crate::object::laid_over;
 
 /// Does one request after another. It keeps the committed bytes of each object, in an ordered map by number.
 #[derive(Drop)]

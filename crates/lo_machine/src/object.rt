@@ -1,9 +1,8 @@
 ghost use Rattle.std.specs.Prelude.{◌≡◌, ◌+◌, ◌<◌, ◌^◌, length, IfOk};
 ghost use Rattle.lo_model.specs.Object.{laid_over};
 
-use std::alloc::Global;
-
 use lo_base::{Bytes, NoMemory};
+use std::alloc::Global;
 
 /// An object's bytes after a write.
 pub fn laid_over(alloc: Global, bytes: &[u8], at: usize, new: &[u8]) -> Result<Bytes, NoMemory>

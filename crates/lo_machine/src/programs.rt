@@ -2,11 +2,10 @@ ghost use Rattle.std.specs.Prelude.{◌≡◌, ◌-◌, List, [], ◌∷◌, ◌
 ghost use Rattle.lo_machine.specs.Program.{program_of};
 ghost use Rattle.lo_machine.specs.Spelled.{IsSpelled};
 
+use lo_base::{ListOf, NoMemory, Request, Requests, SESSIONS, SessionNo};
 use std::alloc::Global;
 use std::marker::Model;
 use std::mem;
-
-use lo_base::{ListOf, NoMemory, Request, Requests, SESSIONS, SessionNo};
 
 /// A program for each session, from session 1 on: the requests that scripts can spell, in the session's order.
 #[derive(Debug, Drop)]

@@ -2,13 +2,11 @@ ghost use Rattle.std.specs.Prelude.{◌≡◌, ◌≤◌, ◌+◌, ◌↔◌, Li
 ghost use Rattle.lo_machine.specs.Program.{program_of};
 ghost use Rattle.lo_machine.specs.Replay.{Play, HasLine, Replays, Advances, moment_of};
 
-use std::alloc::Global;
-use std::marker::Model;
-
-use lo_base::{ListOf, NoMemory, Reply, SESSIONS, SessionNo};
-
 use crate::engine::Engine;
 use crate::programs::Programs;
+use lo_base::{ListOf, NoMemory, Reply, SESSIONS, SessionNo};
+use std::alloc::Global;
+use std::marker::Model;
 
 /// The session of each advance, in the order made.
 pub type Schedule = ListOf<SessionNo>;

@@ -30,15 +30,15 @@ changed c =
     let count : length c.self.inside.lines_done.items ≡ 16 = c.self.invariant.sessions in
     let place : c.place-place.result < length c.self.inside.lines_done.items = omega arith in
     let done : c.index-done.result.now ≡ get_or c.self.inside.lines_done.items c.place-place.result 0 =
-      c.index-done.ensures ∙ get_or_default c.self.inside.lines_done.items c.place-place.result c.index-done.result.now 0 place in
+    c.index-done.ensures ∙ get_or_default c.self.inside.lines_done.items c.place-place.result c.index-done.result.now 0 place in
     let here : c.index-done.result.now ≡ (moment_of (play_of c.self.inside)).lines_done c.args.s =
-      rw session (done ∙ c.self.invariant.lines_done c.place-place.result low) in
+    rw session (done ∙ c.self.invariant.lines_done c.place-place.result low) in
     let some : IsSome (next_line c.self.inside.programs (moment_of (play_of c.self.inside)) c.args.s) =
-      subst (λ (play : Play). HasLine play c.args.s) (sym c.self.view_is) c.requires in
+    subst (λ (play : Play). HasLine play c.args.s) (sym c.self.view_is) c.requires in
     let left : c.index-done.result.now < length (program_of c.self.inside.programs c.args.s) = rw here (slice_get_some_within _ _ some) in
     let line : slice_get (program_of c.self.inside.programs c.args.s) c.index-done.result.now ≡ Some c.index-lines-done.result =
-      slice_get_read (program_of c.self.inside.programs c.args.s) _ c.index-done.result.now c.index-lines-done.result refl left
-        (c.index-lines-done.is ∙ ap (λ (lines : List Request). get_or lines c.index-done.result.now c.index-lines-done.result) c.lines.ensures.lines) in
+    slice_get_read (program_of c.self.inside.programs c.args.s) _ c.index-done.result.now c.index-lines-done.result refl left
+    (c.index-lines-done.is ∙ ap (λ (lines : List Request). get_or lines c.index-done.result.now c.index-lines-done.result) c.lines.ensures.lines) in
     record {
       session = session;
       within = low;

@@ -1,0 +1,3 @@
+mod Examples
+mod Named
+mod Putting

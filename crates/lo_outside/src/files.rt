@@ -1,0 +1,41 @@
+ghost use Rattle.std.specs.Prelude.{◌≡◌, ◌-◌, ◌≤◌, ◌++◌, ℕ, Bool, List, Option, length, take, drop, min, IsTrue, IfOk};
+ghost use Rattle.lo_outside.specs.Files.{File, size_of, bytes_of};
+ghost use Rattle.lo_outside.specs.Faults.{HasCause};
+
+/// An input or an output failed. No reason is told.
+#[derive(Clone, Copy, Debug, PartialEq, Eq)]
+pub struct Failed;
+
+/// A folder of files, by name. A folder in memory tells what it holds; the system's does not, since no proof can say
+/// what a disk gives back.
+pub trait Files {
+    /// Whether the contents are told.
+    ghost tells: { Self → Bool };
+
+    /// The file of each name, where the contents are told.
+    ghost folder: { Self → List ℕ → Option File };
+
+    /// How often a call has failed: 64 bits, and at the last value it stands still.
+    ghost faults: { Self → ℕ };
+
+    /// The number of the file's bytes, or `None` where there is no file of that name.
+    fn size(&mut self, name: &str) -> Result<Option<u64>, Failed>
+        ensures size { IsTrue (tells self.old) →
+            IfOk result (λ size. size ≡ size_of (folder self.old name.now)) }
+        ensures tells { tells self.new ≡ tells self.old }
+        ensures folder { folder self.new ≡ folder self.old }
+        ensures cause { HasCause (faults self.old) (faults self.new) result };
+
+    /// Fills the front of `out` with the file's bytes from the offset `at` on, and answers how many they are. Where the
+    /// contents are told that is as many as there are and as fit: none at the end or past it, and none where there is
+    /// no file of that name. Else it may be fewer. After a failure the bytes of `out` may be any.
+    fn read(&mut self, name: &str, at: u64, out: &mut [u8]) -> Result<usize, Failed>
+        ensures within { IfOk result (λ n. n ≤ length out.old) }
+        ensures count { IsTrue (tells self.old) →
+            IfOk result (λ n. n ≡ min (length out.old) (length (bytes_of (folder self.old name.now)) - at)) }
+        ensures filled { IsTrue (tells self.old) →
+            IfOk result (λ n. out.new ≡ take n (drop at (bytes_of (folder self.old name.now))) ++ drop n out.old) }
+        ensures tells { tells self.new ≡ tells self.old }
+        ensures folder { folder self.new ≡ folder self.old }
+        ensures cause { HasCause (faults self.old) (faults self.new) result };
+}

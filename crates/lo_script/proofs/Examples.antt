@@ -1,0 +1,171 @@
+-- Worked examples of the grammar and of printed replies, each computed by the checker: a wrong one fails the crate.
+use Rattle.std.proofs.Common.{◌≡◌, refl, pos, negsuc, List, [], ◌∷◌, Some, None, replicate}
+use Rattle.std.specs.Prelude.{codes}
+use Rattle.std.specs.Fmt.{digits}
+use Rattle.hex.specs.Hex.{encode_with, decode_pairs}
+use Rattle.lo_base.specs.declared.refusal.Cause.TheVariants.{NoObject, ObjectExists}
+use Rattle.lo_base.specs.declared.reply.Reply.TheVariants.{Word, Number, Content, Refused}
+use Rattle.lo_base.specs.declared.reply.Word.TheVariants.{Ok}
+use Rattle.lo_base.specs.declared.request.Request.{Request}
+use Rattle.lo_base.specs.declared.request.Request.TheVariants.{LoCreate, LoPut, LoGet}
+use Rattle.lo_script.specs.Token.{decimal_of, bytes_of}
+use Rattle.lo_script.specs.Form.{request_of}
+use Rattle.lo_script.specs.Script.{script_of, script_with, entry_of}
+use Rattle.lo_script.specs.ReplyText.{text_of, line_of, lines_of}
+
+-- the programs of session 1 and of fifteen sessions with no line
+abbrev alone : List Request → List (List Request)
+alone program = program ∷ replicate 15 []
+
+-- Scripts
+
+-- an object is made, written behind a hole, and read
+three_requests : script_of (codes "A: lo_create 17000\nA: lo_put 17000 3 \\x41\nA: lo_get 17000\n")
+    ≡ Some (script_with (alone (LoCreate 17000 ∷ LoPut 17000 (pos 3) (65 ∷ []) ∷ LoGet 17000 (pos 0) None ∷ [])) (1 ∷ 1 ∷ 1 ∷ []))
+unfolding digits decode_pairs
+three_requests = refl
+
+-- comments and empty lines are skipped, a carriage return before a line feed is dropped, and the last line feed may be missing
+skipped_lines : script_of (codes "# a note\n\r\nA: lo_get 5\r\n\nA: lo_get 0")
+    ≡ Some (script_with (alone (LoGet 5 (pos 0) None ∷ LoGet 0 (pos 0) None ∷ [])) (1 ∷ 1 ∷ []))
+unfolding digits
+skipped_lines = refl
+
+no_lines : script_of [] ≡ Some (script_with (replicate 16 []) [])
+no_lines = refl
+
+-- where one line is outside the grammar the script is, too
+one_bad_line : script_of (codes "A: lo_get 5\nA: lo_get\n") ≡ None
+unfolding digits
+one_bad_line = refl
+
+-- a last line without a line feed keeps its carriage return, and of two the second is no part of the line's end
+kept_return : script_of (codes "A: lo_get 5\r") ≡ None
+unfolding digits
+kept_return = refl
+
+second_return : script_of (codes "A: lo_get 5\r\r\n") ≡ None
+unfolding digits
+second_return = refl
+
+-- Lines
+
+two_spaces : entry_of (codes "A:  lo_get 5") ≡ None
+unfolding digits
+two_spaces = refl
+
+space_at_the_end : entry_of (codes "A: lo_get 5 ") ≡ None
+unfolding digits
+space_at_the_end = refl
+
+space_at_the_front : entry_of (codes " A: lo_get 5") ≡ None
+space_at_the_front = refl
+
+other_session : entry_of (codes "B: lo_get 5") ≡ None
+other_session = refl
+
+no_session : entry_of (codes "lo_get 5") ≡ None
+no_session = refl
+
+no_word : entry_of (codes "A:") ≡ None
+no_word = refl
+
+unknown_word : entry_of (codes "A: lo_creat 5") ≡ None
+unknown_word = refl
+
+-- Tokens
+
+zero_token : decimal_of (codes "0") ≡ Some 0
+unfolding digits
+zero_token = refl
+
+leading_zero : decimal_of (codes "05") ≡ None
+unfolding digits
+leading_zero = refl
+
+plus_sign : decimal_of (codes "+5") ≡ None
+unfolding digits
+plus_sign = refl
+
+no_digits : decimal_of [] ≡ None
+unfolding digits
+no_digits = refl
+
+letters : decimal_of (codes "5a") ≡ None
+unfolding digits
+letters = refl
+
+either_case : bytes_of 3 (codes "\\x4aBCd0") ≡ Some (74 ∷ 188 ∷ 208 ∷ [])
+unfolding decode_pairs
+either_case = refl
+
+no_bytes : bytes_of 3 (codes "\\x") ≡ Some []
+unfolding decode_pairs
+no_bytes = refl
+
+odd_digits : bytes_of 3 (codes "\\x4") ≡ None
+unfolding decode_pairs
+odd_digits = refl
+
+no_hexadecimal_digit : bytes_of 3 (codes "\\x4g") ≡ None
+unfolding decode_pairs
+no_hexadecimal_digit = refl
+
+capital_x : bytes_of 3 (codes "\\X41") ≡ None
+capital_x = refl
+
+too_many_bytes : bytes_of 3 (codes "\\x41414141") ≡ None
+unfolding decode_pairs
+too_many_bytes = refl
+
+-- Ranges
+
+least_created : request_of (codes "lo_create" ∷ codes "0" ∷ []) ≡ None
+unfolding digits
+least_created = refl
+
+greatest_created : request_of (codes "lo_create" ∷ codes "4294967295" ∷ []) ≡ Some (LoCreate 4294967295)
+unfolding digits
+greatest_created = refl
+
+above_the_greatest : request_of (codes "lo_create" ∷ codes "4294967296" ∷ []) ≡ None
+unfolding digits
+above_the_greatest = refl
+
+farthest_put : request_of (codes "lo_put" ∷ codes "0" ∷ codes "8388608" ∷ codes "\\x" ∷ []) ≡ Some (LoPut 0 (pos 8388608) [])
+unfolding digits decode_pairs
+farthest_put = refl
+
+too_far : request_of (codes "lo_put" ∷ codes "0" ∷ codes "8388609" ∷ codes "\\x" ∷ []) ≡ None
+unfolding digits
+too_far = refl
+
+long_form : request_of (codes "lo_get" ∷ codes "5" ∷ codes "1" ∷ codes "2" ∷ []) ≡ None
+unfolding digits
+long_form = refl
+
+-- Replies
+
+printed_replies : lines_of ((1, Number (pos 17000)) ∷ (1, Word Ok) ∷ (1, Content (0 ∷ 0 ∷ 0 ∷ 65 ∷ [])) ∷ [])
+    ≡ codes "A: 17000\nA: OK\nA: \\x00000041\n"
+unfolding digits encode_with
+printed_replies = refl
+
+printed_refusal : line_of 1 (Refused (record { cause = NoObject; subject = pos 7 })) ≡ codes "A: ERROR 42704: large object 7 does not exist\n"
+unfolding digits
+printed_refusal = refl
+
+other_refusal : line_of 1 (Refused (record { cause = ObjectExists; subject = pos 5 })) ≡ codes "A: ERROR 23505: large object 5 already exists\n"
+unfolding digits
+other_refusal = refl
+
+negative_number : text_of (Number (negsuc 0)) ≡ codes "-1"
+unfolding digits
+negative_number = refl
+
+lower_case : text_of (Content (171 ∷ 255 ∷ [])) ≡ codes "\\xabff"
+unfolding encode_with
+lower_case = refl
+
+no_replies : lines_of [] ≡ []
+no_replies = refl

@@ -1,0 +1,54 @@
+-- Lines and tokens: parts of a cut text.
+use Rattle.std.proofs.Common.{◌≡◌, ℕ, ◌+◌, ◌<◌, ◌==◌, Bool, Some, None, List, [], ◌∷◌, length, take, drop, get_or, false, ◌-◌, length-drop, refl, ◌∙◌, arith}
+use Rattle.std.specs.List.{slice_split, position, position_or_len}
+use Rattle.lo_script.specs.Form.{no_token}
+use Rattle.std.specs.Str.Lines.{lines, lines_of_parts, strip_carriage_return}
+use Rattle.std.proofs.lemmas.List.Splits.{length-slice_split, slice_split_first, slice_split_none}
+use Rattle.std.proofs.lemmas.List.Quantifiers.{position-Some}
+use Rattle.std.proofs.lemmas.List.Sums.{position_or_len_is, fails_before_first}
+use Rattle.std.proofs.lemmas.List.Elements.{All-from_get_or}
+use Rattle.std.proofs.lemmas.List.{take_all}
+use Rattle.std.proofs.lemmas.Bool.Decides.{nat_tests}
+
+-- a cut gives one part or more
+pub slice_split-some : {X : Type 0} (p : X → Bool) (xs : List X) → 0 < length (slice_split p xs)
+slice_split-some p xs = let e = length-slice_split p xs in omega (arith, e)
+
+pub lines_of_parts-more : (x : List ℕ) (parts : List (List ℕ)) → 0 < length parts → lines_of_parts (x ∷ parts) ≡ strip_carriage_return x ∷ lines_of_parts parts
+lines_of_parts-more x [] some = absurd (omega arith)
+lines_of_parts-more x (y ∷ more) some = refl
+
+-- the first part of a cut, by the first place at which the test passes
+pub slice_split-at_position : {X : Type 0} (p : X → Bool) (xs : List X) (i : ℕ) (d : X) → position p xs ≡ Some i → slice_split p xs ≡ take i xs ∷ slice_split p (drop (i + 1) xs)
+slice_split-at_position p xs i d h =
+    let found = position-Some p xs i d h in
+    let at : position_or_len p xs ≡ i = position_or_len_is p xs i d (omega (arith, found.0)) found.2 (λ _. found.1) in
+    let within : position_or_len p xs < length xs = rw at found.0 in
+    slice_split_first p xs d within ∙ rw at refl
+
+-- the same, with the rest as a slice up to the end
+pub slice_split-sliced : {X : Type 0} (p : X → Bool) (xs : List X) (i : ℕ) (d : X) → position p xs ≡ Some i → slice_split p xs ≡ take i xs ∷ slice_split p (take (length xs - (i + 1)) (drop (i + 1) xs))
+slice_split-sliced p xs i d h =
+    let len = length-drop (i + 1) xs in
+    let whole : take (length xs - (i + 1)) (drop (i + 1) xs) ≡ drop (i + 1) xs = take_all (length xs - (i + 1)) (drop (i + 1) xs) (omega (arith, len)) in
+    rw whole (slice_split-at_position p xs i d h)
+
+none_before_end : {X : Type 0} (p : X → Bool) (xs : List X) → position p xs ≡ None → (d : X) → (i : ℕ) → i < length xs → p (get_or xs i d) ≡ false
+none_before_end p xs h d i within = fails_before_first p xs i d (grind (arith, nat_tests))
+
+pub slice_split-at_none : {X : Type 0} (p : X → Bool) (xs : List X) → position p xs ≡ None → slice_split p xs ≡ xs ∷ []
+slice_split-at_none p [] h = refl
+slice_split-at_none p (x ∷ xs) h = slice_split_none p (x ∷ xs) (All-from_get_or (λ y. p y ≡ false) (x ∷ xs) x (none_before_end p (x ∷ xs) h x))
+
+-- no cut gives no part
+pub slice_split-not_nil : {X : Type 0} (p : X → Bool) (xs : List X) → slice_split p xs ≡ [] → ⊥
+slice_split-not_nil p xs h = let some = slice_split-some p xs in let none : length (slice_split p xs) ≡ 0 = rw h refl in omega (arith, some, none)
+
+-- the first line of a text, whose line feed stands at the first cut
+pub first_of_lines : (text line after : List ℕ) → slice_split (λ b. b == 10) text ≡ line ∷ slice_split (λ b. b == 10) after → lines text ≡ strip_carriage_return line ∷ lines after
+first_of_lines text line after h = rw h (lines_of_parts-more line (slice_split (λ b. b == 10) after) (slice_split-some (λ b. b == 10) after))
+
+-- where no token is left none is missing, and otherwise one is too many
+pub no_token-left : {R : Type 0} (r : R) (tokens : List (List ℕ)) → (tokens ≡ [] → ⊥) → no_token r tokens ≡ None
+no_token-left r [] some = absurd (some refl)
+no_token-left r (token ∷ tokens) some = refl

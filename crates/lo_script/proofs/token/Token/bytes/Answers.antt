@@ -1,0 +1,14 @@
+use Rattle.lo_script.proofs.Numbers.{too_many_digits, enough_digits}
+use Rattle.lo_script.proofs.token.Token.bytes.Goals as goal
+
+pub returns-then-digits-most : goal.returns-then-digits-most
+returns-then-digits-most c =
+    let none = too_many_digits c.args.most c.in-Some.digits.now c.if-digits-most.true in
+    let cases = c.in-Some.ensures.cases in
+    record { ok = tt; bad = λ _. rw (cases.0, ← cases.1) none }
+
+pub returns-in-Ok : goal.returns-in-Ok
+returns-in-Ok c =
+    let some = enough_digits c.args.most c.in-Some.digits.now c.in-Ok.bytes.items c.in-Ok.ensures.ok c.if-digits-most.false in
+    let cases = c.in-Some.ensures.cases in
+    record { ok = rw (cases.0, ← cases.1, c.from_vec.ensures) some; bad = tt }

@@ -1,0 +1,6 @@
+pub mod Answer
+pub mod Form
+pub mod ReplyText
+pub mod Script
+pub mod Spelling
+pub mod Token

@@ -1,0 +1,47 @@
+-- A script: lines of requests, each marked with its session.
+use Rattle.std.specs.Prelude.{ℕ, ◌-◌, ◌==◌, not, Bool, false, List, [], ◌∷◌, ◌++◌, filter, replicate, slice_set, Option, Some, option_map, option_and_then}
+use Rattle.std.specs.Str.Lines.{lines}
+use Rattle.lo_base.specs.declared.request.Request.{Request}
+use Rattle.lo_machine.specs.Program.{program_of}
+use Rattle.lo_script.specs.Form.{first_token, request_of}
+use Rattle.lo_script.specs.Token.{tokens_of, session_of}
+
+-- the programs of all sixteen sessions, from session 1 on, and the session of each request line, in the order of the lines
+pub record ScriptText : Type 0 where
+  pub programs : List (List Request)
+  pub order : List ℕ
+
+abbrev pub script_with : List (List Request) → (order : List ℕ) → ScriptText
+script_with programs order = record { programs = programs; order = order }
+
+-- an empty line is skipped, and so is a comment, which begins with `#`
+abbrev pub is_request_line : (line : List ℕ) → Bool
+is_request_line [] = false
+is_request_line (b ∷ line) = not (b == 35)
+
+-- a line's session and request: its mark, and the tokens of a form
+abbrev pub entry_of : (line : List ℕ) → Option (ℕ × Request)
+entry_of line = first_token session_of (λ session tokens. option_map (λ request. (session, request)) (request_of tokens)) (tokens_of line)
+
+-- the values of all, where each has one
+abbrev pub all_of : {A B : Type 0} → (A → Option B) → List A → Option (List B)
+all_of value [] = Some []
+all_of value (a ∷ more) = option_and_then (λ b. option_map (λ bs. b ∷ bs) (all_of value more)) (value a)
+
+-- a request goes to the end of its session's program, and its session to the end of the order
+abbrev pub with_entry : ScriptText → ℕ × Request → ScriptText
+with_entry script entry =
+    script_with (slice_set script.programs (entry.0 - 1) (program_of script.programs entry.0 ++ entry.1 ∷ [])) (script.order ++ entry.0 ∷ [])
+
+abbrev pub with_entries : ScriptText → List (ℕ × Request) → ScriptText
+with_entries script [] = script
+with_entries script (entry ∷ entries) = with_entries (with_entry script entry) entries
+
+-- a script with lines added at its end: nothing where one of them is outside the grammar. Lines end with a line feed, which
+-- the last may lack; one carriage return before a line feed is no part of its line
+abbrev pub with_lines : ScriptText → List (List ℕ) → Option ScriptText
+with_lines script added = option_map (with_entries script) (all_of entry_of (filter is_request_line added))
+
+-- the script that a text spells: nothing where it is outside the grammar
+abbrev pub script_of : (text : List ℕ) → Option ScriptText
+script_of text = with_lines (script_with (replicate 16 []) []) (lines text)

@@ -1,0 +1,31 @@
+use lo_base::NoMemory;
+use thiserror::Error;
+
+/// A place in a script, both numbers from 1. Every line counts, and columns are counted in bytes.
+#[derive(Clone, Copy, Debug, PartialEq, Eq)]
+pub struct BadLine {
+    pub line: u64,
+    pub column: u64,
+}
+
+/// Why a script was not read.
+#[derive(Debug, Drop, Error)]
+pub enum ScriptError {
+    /// The script is outside the grammar: the place of the first token that is not allowed after those before it. Where
+    /// a token is missing, the column is the line's length plus 1.
+    #[error("line {} column {}", .0.line, .0.column)]
+    Bad(BadLine),
+    #[error("out of memory")]
+    NoMemory,
+}
+
+impl From<NoMemory> for ScriptError {
+    ghost use Rattle.std.specs.Prelude.{◌≡◌};
+    ghost use Rattle.lo_script.specs.declared.error.ScriptError.TheVariants.{NoMemory as OutOfMemory};
+
+    ghost from_gives = { λ _ e. e ≡ OutOfMemory };
+
+    fn from(_e: NoMemory) -> ScriptError {
+        ScriptError::NoMemory
+    }
+}

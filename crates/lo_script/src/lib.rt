@@ -1,0 +1,16 @@
+//! The text form of runs: scripts are read into programs and their order, and replies are printed as lines.
+#![tactic(auto)]
+
+mod error;
+mod form;
+mod law;
+mod reply;
+mod script;
+#[cfg(test)]
+mod tests;
+mod token;
+
+pub use error::{BadLine, ScriptError};
+pub use law::{replies_are_lines, tokens_spell};
+pub use reply::reply_text;
+pub use script::{Script, read_script};

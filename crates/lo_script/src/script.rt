@@ -1,0 +1,82 @@
+ghost use Rattle.std.specs.Prelude.{◌≡◌, ◌<◌, ◌∷◌, length, Some, None, IfOk, IfErr};
+ghost use Rattle.std.specs.Str.Lines.{lines, strip_carriage_return};
+ghost use Rattle.lo_machine.specs.Run.{IsOrderOf};
+ghost use Rattle.lo_script.specs.Answer.{IsBad, Reads};
+ghost use Rattle.lo_script.specs.Script.{script_of, script_with, entry_of, is_request_line};
+
+use crate::error::ScriptError;
+use crate::form::read_request;
+use crate::token::{Tokens, cut};
+use lo_base::{Request, SessionNo};
+use lo_machine::{Programs, Schedule};
+use std::alloc::Global;
+
+/// A script that was read.
+#[derive(Drop)]
+pub struct Script {
+    pub programs: Programs,
+    /// The session of each request line, in the order of the lines.
+    pub order: Schedule,
+}
+
+/// Reads a script: one request a line, after the mark of its session. Reading stops at the first line outside the grammar.
+pub fn read_script(alloc: Global, bytes: &[u8]) -> Result<Script, ScriptError>
+    ensures ok { IfOk result (λ script. script_of bytes.now ≡ Some (script_with script.programs script.order)) }
+    ensures order { IfOk result (λ script. IsOrderOf script.programs script.order) }
+    ensures bad { IfErr result (λ e. IsBad e → script_of bytes.now ≡ None) }
+{
+    let mut programs = Programs::new(alloc)?;
+    let mut order = Schedule::new(alloc);
+    let mut rest = bytes;
+    let mut number = 0;
+    while !rest.is_empty() {
+        let (line, after) = first_line(rest);
+        rest = after;
+        number += 1;
+        if is_request_line(line) {
+            let (s, request) = read_line(alloc, line, number)?;
+            programs.push(s, request)?;
+            order.push(s)?;
+        }
+    }
+    Ok(Script { programs, order })
+}
+
+/// The session and the request of the line of that number.
+fn read_line(alloc: Global, line: &[u8], number: u64) -> Result<(SessionNo, Request), ScriptError>
+    ensures { Reads (entry_of line.now) result }
+{
+    let mut tokens = Tokens::of(line, number);
+    let s = tokens.next()?.session()?;
+    Ok((s, read_request(alloc, &mut tokens)?))
+}
+
+/// Whether the line is neither empty nor a comment.
+fn is_request_line(line: &[u8]) -> bool
+    ensures { result ≡ is_request_line line.now }
+{
+    line.first().is_some_and(|b| *b != b'#')
+}
+
+/// The first line, without its end, and what follows it.
+fn first_line(text: &[u8]) -> (&[u8], &[u8])
+    requires { 0 < length text.now }
+    ensures lines { lines text.now ≡ result.0.now ∷ lines result.1.now }
+    ensures shorter { length result.1.now < length text.now }
+{
+    let (line, after) = cut(text, b'\n');
+    match after {
+        Some(after) => (without_return(line), after),
+        None => (line, &[]),
+    }
+}
+
+/// The line without the one carriage return at its end, if it has one.
+fn without_return(line: &[u8]) -> &[u8]
+    ensures { result.now ≡ strip_carriage_return line.now }
+{
+    match line {
+        [front @ .., b'\r'] => front,
+        _ => line,
+    }
+}

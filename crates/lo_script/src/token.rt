@@ -1,0 +1,172 @@
+ghost use Rattle.std.specs.Prelude.{◌≡◌, ◌≢◌, ◌+◌, ◌<◌, ◌≤◌, ◌==◌, [], ◌∷◌, length, bytes_eq, IfOk, IfErr, OnOk, IfSome};
+ghost use Rattle.std.specs.List.{slice_split, position};
+ghost use Rattle.std.specs.Option.{option_map_or};
+ghost use Rattle.lo_script.specs.Answer.{IsBad, Reads};
+ghost use Rattle.lo_script.specs.Token.{tokens_of, number_of, bytes_of, session_of};
+
+use crate::error::{BadLine, ScriptError};
+use hex::FromHexError;
+use itoa::Buffer;
+use lo_base::{Bytes, SessionNo};
+use std::alloc::Global;
+use std::marker::Model;
+use std::str;
+
+/// The tokens of a line that are left to read.
+#[derive(Drop)]
+pub struct Tokens<'a> {
+    line: &'a [u8],
+    /// The line's number in its script, from 1.
+    number: u64,
+    /// From the next token on, or nothing after the last.
+    rest: Option<&'a [u8]>,
+}
+
+impl<'a> Model for Tokens<'a> {
+    ghost use Rattle.std.specs.Prelude.{ℕ, ◌≤◌, List, [], length};
+    ghost use Rattle.std.specs.Option.{option_map_or};
+    ghost use Rattle.lo_script.specs.Token.{tokens_of};
+
+    ghost Value = { List (List ℕ) };
+
+    ghost view = { λ t. option_map_or (λ rest. tokens_of rest.now) t.rest [] };
+
+    ghost invariant = { λ t. option_map_or (λ rest. length rest.now) t.rest 0 ≤ length t.line.now };
+}
+
+/// A token and its place.
+#[derive(Clone, Copy)]
+pub struct Token<'a> {
+    text: &'a [u8],
+    place: BadLine,
+}
+
+impl<'a> Tokens<'a> {
+    /// All tokens of the line of that number.
+    pub fn of(line: &'a [u8], number: u64) -> Tokens<'a>
+        ensures { result ≡ tokens_of line.now }
+    {
+        Tokens {
+            line,
+            number,
+            rest: Some(line),
+        }
+    }
+
+    /// Takes the next token.
+    pub fn next(&mut self) -> Result<Token<'a>, ScriptError>
+        ensures ok { IfOk result (λ token. self.old ≡ token.text.now ∷ self.new) }
+        ensures bad { IfErr result (λ e. IsBad e → self.old ≡ []) }
+    {
+        let place = self.place();
+        let Some(rest) = self.rest else {
+            return Err(ScriptError::Bad(place));
+        };
+        let (text, after) = cut(rest, b' ');
+        self.rest = after;
+        Ok(Token { text, place })
+    }
+
+    /// Checks that no token is left.
+    pub fn end(&self) -> Result<(), ScriptError>
+        ensures ok { OnOk result (self.now ≡ []) }
+        ensures bad { IfErr result (λ e. IsBad e → self.now ≢ []) }
+    {
+        match self.rest {
+            Some(_) => Err(ScriptError::Bad(self.place())),
+            None => Ok(()),
+        }
+    }
+
+    /// The place of the next token, or of the line's end where none is left.
+    fn place(&self) -> BadLine {
+        let left = self.rest.map_or(0, |rest| rest.len());
+        BadLine {
+            line: self.number,
+            column: (self.line.len() - left) as u64 + 1,
+        }
+    }
+}
+
+impl Token<'_> {
+    /// The error that this token is not allowed.
+    pub fn refused(&self) -> ScriptError
+        ensures { IsBad result }
+    {
+        ScriptError::Bad(self.place)
+    }
+
+    /// Whether the token is that word.
+    pub fn is(&self, word: &[u8]) -> bool
+        ensures { result ≡ bytes_eq self.now.text.now word.now }
+    {
+        self.text == word
+    }
+
+    /// The session of a mark.
+    pub fn session(&self) -> Result<SessionNo, ScriptError>
+        ensures { Reads (session_of self.now.text.now) result }
+    {
+        match SessionNo::new(1) {
+            Some(s) if self.is(b"A:") => Ok(s),
+            _ => Err(self.refused()),
+        }
+    }
+
+    /// A decimal from `least` to `most`.
+    pub fn number(&self, least: u32, most: u32) -> Result<u32, ScriptError>
+        ensures { Reads (number_of least most self.now.text.now) result }
+    {
+        match decimal(self.text) {
+            Some(n) if least <= n && n <= most => Ok(n),
+            _ => Err(self.refused()),
+        }
+    }
+
+    /// At most `most` bytes, in hexadecimal digits of either case after `\x`.
+    pub fn bytes(&self, alloc: Global, most: usize) -> Result<Bytes, ScriptError>
+        ensures { Reads (bytes_of most self.now.text.now) result }
+    {
+        let Some(digits) = self.text.strip_prefix(b"\\x") else {
+            return Err(self.refused());
+        };
+        if digits.len() / 2 > most {
+            return Err(self.refused());
+        }
+        match hex::decode(alloc, digits) {
+            Ok(bytes) => Ok(Bytes::from_vec(bytes)),
+            Err(FromHexError::OutOfMemory) => Err(ScriptError::NoMemory),
+            Err(_) => Err(self.refused()),
+        }
+    }
+}
+
+/// The number below 2^32 that prints as the token.
+fn decimal(token: &[u8]) -> Option<u32>
+    ensures { result ≡ number_of 0 4294967295 token.now }
+{
+    let n = str::from_utf8(token).ok()?.parse::<u32>().ok()?;
+    if Buffer::new().format(n).as_bytes() == token {
+        Some(n)
+    } else {
+        None
+    }
+}
+
+/// What stands before the first `at`, and what stands after it, if there is one.
+pub fn cut(bytes: &[u8], at: u8) -> (&[u8], Option<&[u8]>)
+    ensures parts { slice_split (λ b. b == at) bytes.now ≡ result.0.now ∷ option_map_or (λ rest. slice_split (λ b. b == at) rest.now) result.1 [] }
+    ensures whole { option_map_or (λ rest. length result.0.now + 1 + length rest.now) result.1 (length result.0.now) ≡ length bytes.now }
+{
+    match first_place(bytes, at) {
+        Some(end) => (&bytes[..end], Some(&bytes[end + 1..])),
+        None => (bytes, None),
+    }
+}
+
+/// The place of the first `at`, if there is one.
+fn first_place(bytes: &[u8], at: u8) -> Option<usize>
+    ensures { result ≡ position (λ b. b == at) bytes.now }
+{
+    bytes.iter().position(|b| *b == at)
+}

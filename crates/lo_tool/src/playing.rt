@@ -1,0 +1,52 @@
+ghost use Rattle.std.specs.Prelude.{◌≡◌, ◌++◌, IfOk, OnOk};
+ghost use Rattle.lo_machine.specs.Run.{replies_of, schedule_of, IsOrderOf};
+ghost use Rattle.lo_script.specs.ReplyText.{lines_of};
+ghost use Rattle.lo_tool.specs.Reading.{RunsBytes};
+
+use std::alloc::Global;
+
+use lo_base::{Bytes, NoMemory, Reply, SessionNo};
+use lo_machine::{Finished, Running, orders_are_whole};
+use lo_script::{Script, ScriptError, read_script, reply_text};
+
+use crate::stop::Stop;
+use crate::text::{line_about, place_text};
+
+/// The text of a script's run: one line for each reply, in the order of the schedule.
+pub fn run_script(alloc: Global, name: &str, bytes: &[u8]) -> Result<Bytes, Stop>
+    ensures { RunsBytes name.now bytes.now result }
+{
+    let script = match read_script(alloc, bytes) {
+        Ok(script) => script,
+        Err(ScriptError::Bad(place)) => {
+            let place = place_text(alloc, place)?;
+            return Err(Stop::BadInput(line_about(alloc, name, place.items())?));
+        }
+        Err(ScriptError::NoMemory) => return Err(Stop::NoMemory),
+    };
+    Ok(text_of(alloc, play(alloc, script)?.replies.items())?)
+}
+
+/// Runs a script on the empty database, to its end.
+fn play(alloc: Global, script: Script) -> Result<Finished, NoMemory>
+    requires { IsOrderOf script.programs script.order }
+    ensures { IfOk result (λ finished. finished.replies ≡ replies_of script.programs (schedule_of script.order)) }
+{
+    orders_are_whole();
+    let mut running = Running::start(alloc, script.programs)?;
+    for s in script.order.items() {
+        running.advance(*s)?;
+    }
+    running.finish()
+}
+
+/// The lines of replies.
+fn text_of(alloc: Global, replies: &[(SessionNo, Reply)]) -> Result<Bytes, NoMemory>
+    ensures { IfOk result (λ text. text ≡ lines_of replies.now) }
+{
+    let mut text = Bytes::new(alloc);
+    for (s, reply) in replies {
+        reply_text(*s, reply, &mut text)?;
+    }
+    Ok(text)
+}
