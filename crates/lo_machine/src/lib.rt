@@ -7,6 +7,8 @@ mod law;
 mod object;
 mod programs;
 mod running;
+#[cfg(test)]
+mod tests;
 
 pub use engine::Engine;
 pub use law::orders_are_whole;

@@ -1,4 +1,4 @@
-ghost use Rattle.std.specs.Prelude.{◌≡◌, ◌≤◌, ◌+◌, ◌↔◌, List, [], length, IsTrue, IfOk, OnOk, OnErr};
+ghost use Rattle.std.specs.Prelude.{◌≡◌, ◌≤◌, ◌+◌, List, [], length, IsTrue, IsFalse, IfOk, OnOk, OnErr};
 ghost use Rattle.lo_machine.specs.Program.{program_of};
 ghost use Rattle.lo_machine.specs.Replay.{Play, HasLine, Replays, Advances, moment_of};
 
@@ -63,7 +63,8 @@ impl Running {
 
     /// Whether the session has no line left.
     pub fn is_done(&self, s: SessionNo) -> bool
-        ensures { IsTrue result ↔ ¬ HasLine self.now s }
+        ensures done { IsTrue result → ¬ HasLine self.now s }
+        ensures left { IsFalse result → HasLine self.now s }
     {
         self.lines_done[s.place()] >= self.programs.lines(s).len()
     }

@@ -1,0 +1,67 @@
+use crate::{Programs, Running};
+use lo_base::{Bytes, Cause, ListOf, Refusal, Reply, Request, SessionNo, Word};
+use std::test::Fail;
+
+// Session 1 writes a byte behind a hole and reads it; session 2 asks for an object that is not there.
+fn two_programs(
+    alloc: std::alloc::Global,
+    first: SessionNo,
+    second: SessionNo,
+) -> Result<Programs, Fail> {
+    let mut programs = Programs::new(alloc)?;
+    programs.push(first, Request::LoCreate(17000))?;
+    programs.push(
+        first,
+        Request::LoPut(17000, 3, Bytes::from_slice(alloc, b"A")?),
+    )?;
+    programs.push(first, Request::LoGet(17000, 0, None))?;
+    programs.push(second, Request::LoGet(17001, 0, None))?;
+    Ok(programs)
+}
+
+#[test]
+fn a_run_gives_each_session_its_replies(rt: HostRuntime) -> Result<(), Fail> {
+    let first = SessionNo::new(1).ok_or("1")?;
+    let second = SessionNo::new(2).ok_or("2")?;
+    let mut running = Running::start(rt.alloc(), two_programs(rt.alloc(), first, second)?)?;
+    for s in [first, second, first, first, second] {
+        if !running.is_done(s) {
+            running.advance(s)?;
+        }
+    }
+    assert!(rt; running.is_done(first) && running.is_done(second));
+    assert_eq!(rt; running.line(first), 4);
+    let finished = running.finish()?;
+    let refused = Refusal {
+        cause: Cause::NoObject,
+        subject: 17001,
+    };
+    let right = match finished.replies.items() {
+        [
+            (_, Reply::Number(17000)),
+            (_, Reply::Refused(r)),
+            (_, Reply::Word(Word::Ok)),
+            (s, Reply::Content(bytes)),
+        ] => { *r == refused && *s == first && bytes.items() == b"\0\0\0A".as_slice() }
+        _ => false,
+    };
+    assert!(rt; right);
+    assert_eq!(rt;
+        finished.schedule.items(),
+        [first, second, first, first].as_slice()
+    );
+    Ok(())
+}
+
+#[test]
+fn a_program_is_taken_and_placed(rt: HostRuntime) -> Result<(), Fail> {
+    let s = SessionNo::new(16).ok_or("16")?;
+    let mut programs = Programs::new(rt.alloc())?;
+    programs.push(s, Request::LoCreate(5))?;
+    let lines = programs.take(s);
+    assert_eq!(rt; lines.items().len(), 1);
+    assert!(rt; programs.lines(s).is_empty());
+    programs.place(s, ListOf::new(rt.alloc()));
+    assert!(rt; programs.lines(s).is_empty());
+    Ok(())
+}
