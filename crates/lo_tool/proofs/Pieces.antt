@@ -7,8 +7,8 @@ pub added_more : (old now new text : List ℕ) (at n : ℕ) → at ≤ length te
 added_more old now new text at n within fits is_now is_new =
     let n_le : n ≤ length text - at = omega (arith, fits, length-take (length text - at) (drop at text)) in
     is_new ∙ ap (λ xs. now ++ xs) (take-take n (length text - at) (drop at text) n_le)
-        ∙ ap (λ xs. xs ++ take n (drop at text)) is_now
-        ∙ append_assoc old (take at text) (take n (drop at text)) ∙ ap (λ xs. old ++ xs) (sym (take-add at n text))
+    ∙ ap (λ xs. xs ++ take n (drop at text)) is_now
+    ∙ append_assoc old (take at text) (take n (drop at text)) ∙ ap (λ xs. old ++ xs) (sym (take-add at n text))
 
 pub within_more : (text : List ℕ) (at n : ℕ) → at ≤ length text → n ≤ length (take (length text - at) (drop at text)) → at + n ≤ length text
 within_more text at n within fits = omega (arith, within, fits, length-take (length text - at) (drop at text), length-drop at text)

@@ -5,7 +5,6 @@ use Rattle.lo_tool.specs.declared.run.Status.TheVariants.{Done, Fault}
 use Rattle.lo_tool.specs.Outside.{SinkState, Took, TookFront}
 use Rattle.lo_tool.specs.Texts.{fault_line}
 
-
 -- a line was said on standard error, which ends a command with a status, or with a fault where standard error failed
 pub data Complains (line : List ℕ) (status : Status) (err err' : SinkState) (result : Status) : Type 0 where
   Said : result ≡ status → Took line err err' → err'.faults ≡ err.faults → Complains line status err err' result

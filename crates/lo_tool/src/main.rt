@@ -6,17 +6,17 @@ mod printing;
 mod reading;
 mod run;
 mod stop;
+#[cfg(test)]
+mod tests;
 mod text;
 mod words;
 
+use lo_outside::{HostFiles, HostSink, OpenGate};
+use run::{Status, run};
 use std::alloc::{AllocError, Global};
 use std::env;
 use std::process::ExitCode;
 use std::rt::Env;
-
-use lo_outside::{HostFiles, HostSink, OpenGate};
-
-use run::{Status, run};
 
 /// The words after the program's name. None where the system gives words that are no text: they are no command.
 fn given_words<R: Env + Alloc<A = Global>>(rt: &R) -> Result<Vec<String>, AllocError> {
@@ -36,6 +36,14 @@ fn main(rt: HostRuntime) -> ExitCode {
     let mut files = HostFiles::new(&rt);
     let mut out = HostSink::out(rt.stdout());
     let mut err = HostSink::err(rt.stderr());
-    let status = run(&rt, rt.alloc(), &words, &mut files, &mut out, &mut err, &OpenGate);
+    let status = run(
+        &rt,
+        rt.alloc(),
+        &words,
+        &mut files,
+        &mut out,
+        &mut err,
+        &OpenGate,
+    );
     ExitCode::from(status as u8)
 }

@@ -3,14 +3,12 @@ ghost use Rattle.lo_machine.specs.Run.{replies_of, schedule_of, IsOrderOf};
 ghost use Rattle.lo_script.specs.ReplyText.{lines_of};
 ghost use Rattle.lo_tool.specs.Reading.{RunsBytes};
 
-use std::alloc::Global;
-
+use crate::stop::Stop;
+use crate::text::{line_about, place_text};
 use lo_base::{Bytes, NoMemory, Reply, SessionNo};
 use lo_machine::{Finished, Running, orders_are_whole};
 use lo_script::{Script, ScriptError, read_script, reply_text};
-
-use crate::stop::Stop;
-use crate::text::{line_about, place_text};
+use std::alloc::Global;
 
 /// The text of a script's run: one line for each reply, in the order of the schedule.
 pub fn run_script(alloc: Global, name: &str, bytes: &[u8]) -> Result<Bytes, Stop>

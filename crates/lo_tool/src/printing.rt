@@ -4,10 +4,9 @@ ghost use Rattle.lo_outside.specs.Faults.{HasCause};
 ghost use Rattle.lo_tool.specs.Printing.{Complains, Prints};
 ghost use Rattle.lo_tool.specs.Texts.{fault_line};
 
-use lo_outside::{Failed, Sink};
-
 use crate::run::Status;
 use crate::text::FAULT;
+use lo_outside::{Failed, Sink};
 
 /// Prints the text of a command that is done. Where standard output fails, that is said on standard error.
 pub fn print<O: Sink>(text: &[u8], out: &mut O, err: &mut O) -> Status

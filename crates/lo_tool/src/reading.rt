@@ -4,13 +4,11 @@ ghost use Rattle.lo_tool.specs.Outcome.{BadFile};
 ghost use Rattle.lo_tool.specs.Reading.{HasStopCause, IsReadWithin, IsStop, IsNoInput};
 ghost use Rattle.lo_tool.specs.Loops.{IsFront};
 
-use std::alloc::Global;
-
-use lo_base::Bytes;
-use lo_outside::Files;
-
 use crate::stop::Stop;
 use crate::text::line_about;
+use lo_base::Bytes;
+use lo_outside::Files;
+use std::alloc::Global;
 
 /// The most bytes of a script.
 pub const MOST_BYTES: u64 = 67_108_864;

@@ -2,19 +2,17 @@ ghost use Rattle.std.specs.Prelude.{◌≡◌, ◌≢◌, map, string_bytes};
 ghost use Rattle.lo_tool.specs.Reading.{HasStopCause, RunsFile};
 ghost use Rattle.lo_tool.specs.Status.{IsDone, IsUsage, IsRefusedInput, IsFault, IsNoMemory, IsFaultless, Leaves};
 
-use std::alloc::Global;
-use std::marker::Sync;
-use std::thread::Threads;
-
-use lo_base::Bytes;
-use lo_outside::{Files, Gate, Sink};
-
 use crate::playing::run_script;
 use crate::printing::{complain, print, report_fault};
 use crate::reading::read_file;
 use crate::stop::Stop;
 use crate::text::USAGE;
 use crate::words::script_file;
+use lo_base::Bytes;
+use lo_outside::{Files, Gate, Sink};
+use std::alloc::Global;
+use std::marker::Sync;
+use std::thread::Threads;
 
 /// How a command ended. The number is the program's exit status.
 #[derive(Clone, Copy, Debug, PartialEq, Eq)]

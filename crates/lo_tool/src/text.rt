@@ -1,14 +1,14 @@
 ghost use Rattle.std.specs.Prelude.{◌≡◌, IfOk};
 ghost use Rattle.lo_tool.specs.Texts.{line_about, place_text};
 
-use std::alloc::Global;
-
 use itoa::Buffer;
 use lo_base::{Bytes, NoMemory};
 use lo_script::BadLine;
+use std::alloc::Global;
 
 /// What is said where the words are no command.
-pub const USAGE: &str = "usage: lo_tool init|script|threads|vacuumlo|import|export|list|unlink|gen\n";
+pub const USAGE: &str =
+    "usage: lo_tool init|script|threads|vacuumlo|import|export|list|unlink|gen\n";
 
 /// What is said where a file, standard output or standard error failed.
 pub const FAULT: &str = "lo_tool: input or output failed\n";

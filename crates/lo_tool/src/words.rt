@@ -8,7 +8,11 @@ pub fn script_file(words: &[String]) -> Option<&str>
     match words {
         [command, image, name] => {
             let is_command = command.as_str() == "script" && image.as_str() == "-";
-            if is_command && is_file_name(name.as_str()) { Some(name.as_str()) } else { None }
+            if is_command && is_file_name(name.as_str()) {
+                Some(name.as_str())
+            } else {
+                None
+            }
         }
         _ => None,
     }

@@ -11,4 +11,5 @@ loop-at-preserved g c =
       within = within_more _ _ _ done.within call.within;
       took = λ tells. added_more _ _ _ _ _ _ done.within call.within (done.took tells) (call.took (rw done.same tells));
       same = call.tells ∙ done.same;
-      count = call.cause.ok ∙ done.count }
+      count = call.cause.ok ∙ done.count;
+    }
