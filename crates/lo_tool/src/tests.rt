@@ -4,6 +4,7 @@ use crate::run::{Status, run};
 use lo_outside::{Failed, Files, MemFiles, MemSink, OpenGate};
 use std::alloc::{AllocError, Global};
 use std::marker::Sync;
+use std::process::Abort;
 use std::test::Fail;
 use std::thread::Threads;
 
@@ -45,6 +46,20 @@ impl Files for Told {
     }
 }
 
+// One run: the words, the content of the one file, which is named `s`, the most bytes that one write takes, and the
+// number of the call of the files, of standard output and of standard error that fails, if any (0: none). What is to
+// come: the status, and what the two sinks took.
+#[derive(Clone, Copy)]
+struct Case {
+    words: &'static str,
+    script: &'static str,
+    most: u64,
+    failing: (u64, u64, u64),
+    status: Status,
+    printed: &'static str,
+    said: &'static str,
+}
+
 fn words_of(alloc: Global, line: &str) -> Result<Vec<String>, AllocError> {
     let mut words = Vec::new(alloc);
     for word in line.split(' ') {
@@ -53,56 +68,107 @@ fn words_of(alloc: Global, line: &str) -> Result<Vec<String>, AllocError> {
     Ok(words)
 }
 
-fn run_line<R: Threads + Sync, F: Files>(
+fn sink(alloc: Global, most: u64, failing: u64) -> Result<MemSink, Fail> {
+    let mut sink = MemSink::new(alloc, 1000, most.max(1))?;
+    sink.fail(vec![in alloc; failing]?);
+    Ok(sink)
+}
+
+fn one_file(alloc: Global, bytes: &[u8], failing: u64) -> Result<MemFiles, Fail> {
+    let mut files = MemFiles::new(alloc, 1, 10_000)?;
+    if !files.put("s", bytes) {
+        return Err(Fail::new("no room"));
+    }
+    files.fail(vec![in alloc; failing]?);
+    Ok(files)
+}
+
+fn check<R: Abort + Threads + Sync, F: Files>(
     rt: &R,
     alloc: Global,
-    line: &str,
     files: &mut F,
-    out: &mut MemSink,
-    err: &mut MemSink,
-) -> Result<Status, Fail> {
-    let words = words_of(alloc, line)?;
-    Ok(run(rt, alloc, &words, files, out, err, &OpenGate))
+    case: &Case,
+) -> Result<(), Fail> {
+    let words = words_of(alloc, case.words)?;
+    let mut out = sink(alloc, case.most, case.failing.1)?;
+    let mut err = sink(alloc, case.most, case.failing.2)?;
+    let status = run(rt, alloc, &words, files, &mut out, &mut err, &OpenGate);
+    assert!(rt; status == case.status);
+    assert!(rt; out.taken() == case.printed.as_bytes());
+    assert!(rt; err.taken() == case.said.as_bytes());
+    Ok(())
 }
 
-// Files with one file, whose name is `s`.
-fn one_file(alloc: Global, bytes: &[u8]) -> Result<MemFiles, Fail> {
-    let mut files = MemFiles::new(alloc, 1, 10_000)?;
-    if files.put("s", bytes) {
-        Ok(files)
-    } else {
-        Err(Fail::new("no room"))
-    }
-}
-
-fn sink(alloc: Global, most: u64) -> Result<MemSink, Fail> {
-    Ok(MemSink::new(alloc, 1000, if most == 0 { 1 } else { most })?)
-}
-
-#[test]
-fn a_script_prints_its_replies(rt: HostRuntime) -> Result<(), Fail> {
-    for most in [1, 7, 1000] {
-        let mut files = one_file(rt.alloc(), SCRIPT.as_bytes())?;
-        let mut out = sink(rt.alloc(), most)?;
-        let mut err = sink(rt.alloc(), most)?;
-        let status = run_line(
-            &rt,
-            rt.alloc(),
-            "script - s",
-            &mut files,
-            &mut out,
-            &mut err,
-        )?;
-        assert_eq!(rt; status, Status::Done);
-        assert_eq!(rt; out.taken(), PRINTED.as_bytes());
-        assert!(rt; err.taken().is_empty());
+fn check_all<R: Abort + Threads + Sync>(rt: &R, alloc: Global, cases: &[Case]) -> Result<(), Fail> {
+    for case in cases {
+        let mut files = one_file(alloc, case.script.as_bytes(), case.failing.0)?;
+        check(rt, alloc, &mut files, case)?;
     }
     Ok(())
 }
 
+fn printing(most: u64) -> Case {
+    Case {
+        words: "script - s",
+        script: SCRIPT,
+        most,
+        failing: (0, 0, 0),
+        status: Status::Done,
+        printed: PRINTED,
+        said: "",
+    }
+}
+
+fn usage(words: &'static str) -> Case {
+    Case {
+        words,
+        script: SCRIPT,
+        most: 1000,
+        failing: (0, 0, 0),
+        status: Status::Usage,
+        printed: "",
+        said: USAGE,
+    }
+}
+
+fn bad(words: &'static str, script: &'static str, said: &'static str) -> Case {
+    Case {
+        words,
+        script,
+        most: 1000,
+        failing: (0, 0, 0),
+        status: Status::BadInput,
+        printed: "",
+        said,
+    }
+}
+
+fn faulty(
+    words: &'static str,
+    most: u64,
+    failing: (u64, u64, u64),
+    printed: &'static str,
+    said: &'static str,
+) -> Case {
+    Case {
+        words,
+        script: SCRIPT,
+        most,
+        failing,
+        status: Status::Fault,
+        printed,
+        said,
+    }
+}
+
+#[test]
+fn a_script_prints_its_replies(rt: HostRuntime) -> Result<(), Fail> {
+    check_all(&rt, rt.alloc(), &[printing(1), printing(7), printing(1000)])
+}
+
 #[test]
 fn other_words_are_usage(rt: HostRuntime) -> Result<(), Fail> {
-    for line in [
+    for words in [
         "",
         "script",
         "script -",
@@ -113,20 +179,14 @@ fn other_words_are_usage(rt: HostRuntime) -> Result<(), Fail> {
         "list s",
         "-n",
     ] {
-        let mut files = one_file(rt.alloc(), SCRIPT.as_bytes())?;
-        let mut out = sink(rt.alloc(), 1000)?;
-        let mut err = sink(rt.alloc(), 1000)?;
-        let status = run_line(&rt, rt.alloc(), line, &mut files, &mut out, &mut err)?;
-        assert_eq!(rt; status, Status::Usage, "{line}");
-        assert_eq!(rt; err.taken(), USAGE.as_bytes());
-        assert!(rt; out.taken().is_empty());
+        check_all(&rt, rt.alloc(), &[usage(words)])?;
     }
     Ok(())
 }
 
 #[test]
 fn bad_input_is_named(rt: HostRuntime) -> Result<(), Fail> {
-    for (line, script, said) in [
+    for (words, script, said) in [
         ("script - none", SCRIPT, "lo_tool: none: no such file\n"),
         (
             "script - s",
@@ -144,88 +204,24 @@ fn bad_input_is_named(rt: HostRuntime) -> Result<(), Fail> {
             "lo_tool: s: line 2 column 4\n",
         ),
     ] {
-        let mut files = one_file(rt.alloc(), script.as_bytes())?;
-        let mut out = sink(rt.alloc(), 1000)?;
-        let mut err = sink(rt.alloc(), 1000)?;
-        let status = run_line(&rt, rt.alloc(), line, &mut files, &mut out, &mut err)?;
-        assert_eq!(rt; status, Status::BadInput, "{line}");
-        assert_eq!(rt; err.taken(), said.as_bytes());
-        assert!(rt; out.taken().is_empty());
+        check_all(&rt, rt.alloc(), &[bad(words, script, said)])?;
     }
     Ok(())
 }
 
-#[test]
-fn a_told_size_is_a_limit_and_no_promise(rt: HostRuntime) -> Result<(), Fail> {
-    for (size, status, printed, said) in [
-        (100, Status::Done, PRINTED, ""),
-        (42, Status::Done, "A: 17000\nA: OK\n", ""),
-        (67_108_864, Status::Done, PRINTED, ""),
-        (67_108_865, Status::BadInput, "", "lo_tool: s: too long\n"),
-    ] {
-        let mut files = Told {
-            size,
-            bytes: SCRIPT.as_bytes(),
-        };
-        let mut out = sink(rt.alloc(), 1000)?;
-        let mut err = sink(rt.alloc(), 1000)?;
-        let ended = run_line(
-            &rt,
-            rt.alloc(),
-            "script - s",
-            &mut files,
-            &mut out,
-            &mut err,
-        )?;
-        assert_eq!(rt; ended, status, "{size}");
-        assert_eq!(rt; out.taken(), printed.as_bytes());
-        assert_eq!(rt; err.taken(), said.as_bytes());
-    }
-    Ok(())
-}
-
-// The first call asks for the size, and two reads follow for a file of more than 8192 bytes.
+// The size is asked for first, and one read follows; the third call is never made.
 #[test]
 fn a_file_that_fails_is_a_fault(rt: HostRuntime) -> Result<(), Fail> {
-    let mut text = vec![in rt.alloc(); b'#'; 9000]?;
-    text.extend_from_slice(b"\nA: lo_create 5")?;
-    for k in 1..5 {
-        let mut files = one_file(rt.alloc(), &text)?;
-        files.fail(vec![in rt.alloc(); k]?);
-        let mut out = sink(rt.alloc(), 1000)?;
-        let mut err = sink(rt.alloc(), 1000)?;
-        let status = run_line(
+    for k in [1, 2] {
+        check_all(
             &rt,
             rt.alloc(),
-            "script - s",
-            &mut files,
-            &mut out,
-            &mut err,
+            &[faulty("script - s", 1000, (k, 0, 0), "", FAULT)],
         )?;
-        let fails = k < 4;
-        assert_eq!(rt;
-            status,
-            if fails { Status::Fault } else { Status::Done },
-            "{k}"
-        );
-        assert_eq!(rt;
-            out.taken(),
-            if fails {
-                "".as_bytes()
-            } else {
-                b"A: 5\n".as_slice()
-            }
-        );
-        assert_eq!(rt;
-            err.taken(),
-            if fails {
-                FAULT.as_bytes()
-            } else {
-                "".as_bytes()
-            }
-        );
     }
-    Ok(())
+    let mut last = printing(1000);
+    last.failing = (3, 0, 0);
+    check_all(&rt, rt.alloc(), &[last])
 }
 
 // Five bytes a write, so that six writes print the whole text.
@@ -236,38 +232,18 @@ fn standard_output_that_fails_keeps_a_front(rt: HostRuntime) -> Result<(), Fail>
         (2, "A: 17"),
         (3, "A: 17000\nA"),
         (4, "A: 17000\nA: OK\n"),
+        (5, "A: 17000\nA: OK\nA: \\x"),
         (6, "A: 17000\nA: OK\nA: \\x00000"),
-        (7, PRINTED),
     ] {
-        let mut files = one_file(rt.alloc(), SCRIPT.as_bytes())?;
-        let mut out = sink(rt.alloc(), 5)?;
-        out.fail(vec![in rt.alloc(); k]?);
-        let mut err = sink(rt.alloc(), 5)?;
-        let status = run_line(
+        check_all(
             &rt,
             rt.alloc(),
-            "script - s",
-            &mut files,
-            &mut out,
-            &mut err,
+            &[faulty("script - s", 5, (0, k, 0), front, FAULT)],
         )?;
-        let fails = k < 7;
-        assert_eq!(rt;
-            status,
-            if fails { Status::Fault } else { Status::Done },
-            "{k}"
-        );
-        assert_eq!(rt; out.taken(), front.as_bytes());
-        assert_eq!(rt;
-            err.taken(),
-            if fails {
-                FAULT.as_bytes()
-            } else {
-                "".as_bytes()
-            }
-        );
     }
-    Ok(())
+    let mut last = printing(5);
+    last.failing = (0, 7, 0);
+    check_all(&rt, rt.alloc(), &[last])
 }
 
 // Twenty bytes a write: what standard error took of a line stays, and nothing follows it.
@@ -276,19 +252,33 @@ fn standard_error_that_fails_keeps_a_front(rt: HostRuntime) -> Result<(), Fail> 
     for (k, front) in [
         (1, ""),
         (2, "usage: lo_tool init|"),
+        (3, "usage: lo_tool init|script|threads|vacuu"),
         (
             4,
             "usage: lo_tool init|script|threads|vacuumlo|import|export|li",
         ),
     ] {
-        let mut files = one_file(rt.alloc(), SCRIPT.as_bytes())?;
-        let mut out = sink(rt.alloc(), 20)?;
-        let mut err = sink(rt.alloc(), 20)?;
-        err.fail(vec![in rt.alloc(); k]?);
-        let status = run_line(&rt, rt.alloc(), "script", &mut files, &mut out, &mut err)?;
-        assert_eq!(rt; status, Status::Fault, "{k}");
-        assert_eq!(rt; err.taken(), front.as_bytes());
-        assert!(rt; out.taken().is_empty());
+        check_all(
+            &rt,
+            rt.alloc(),
+            &[faulty("script", 20, (0, 0, k), "", front)],
+        )?;
+    }
+    Ok(())
+}
+
+#[test]
+fn a_told_size_is_a_limit_and_no_promise(rt: HostRuntime) -> Result<(), Fail> {
+    for (size, case) in [
+        (100, printing(1000)),
+        (67_108_864, printing(1000)),
+        (67_108_865, bad("script - s", "", "lo_tool: s: too long\n")),
+    ] {
+        let mut files = Told {
+            size,
+            bytes: SCRIPT.as_bytes(),
+        };
+        check(&rt, rt.alloc(), &mut files, &case)?;
     }
     Ok(())
 }
