@@ -1,17 +1,19 @@
 -- What a command leaves, from how each of its parts ended.
-use Rattle.std.proofs.Common.{◌≡◌, ◌≢◌, ℕ, ◌<◌, ◌≤◌, List, Some, None, inl, inr, refl, ap, sym, ◌∙◌, arith}
-use Rattle.std.specs.Prelude.{Result, IfOk, IfErr}
+use Rattle.std.proofs.Common.{◌≡◌, ◌≢◌, ℕ, ◌<◌, ◌≤◌, List, Some, None, inl, inr, refl, ap, sym, ◌∙◌, subst, length, arith}
+use Rattle.std.specs.Prelude.{Option, Result, IfOk, IfErr, IsTrue, ◌⊎◌}
 use Rattle.std.proofs.lemmas.Result.{IfOk-weaker, IfErr-weaker}
 use Rattle.lo_outside.specs.Faults.{Rose}
+use Rattle.lo_outside.specs.Files.{File, bytes_of}
+use Rattle.lo_script.specs.Script.{ScriptText, script_of}
 use Rattle.lo_tool.specs.declared.run.Status.{Status}
 use Rattle.lo_tool.specs.declared.run.Status.TheVariants.{Done, Refused, Usage, BadInput, Fault, NoMemory}
 use Rattle.lo_tool.specs.declared.stop.Stop.{Stop}
 use Rattle.lo_tool.specs.declared.stop.Stop.TheVariants.{BadInput as Input, Fault as Failing, NoMemory as OutOfMemory}
-use Rattle.lo_tool.specs.Outcome.{RunsTo, PrintsScript, PrintsRun, IsOutside, BadFile, OutsideGrammar, IsBadInput}
-use Rattle.lo_tool.specs.Outside.{FilesState, SinkState, Took, TookFront, TookNothing, last_count, IsRead}
+use Rattle.lo_tool.specs.Outcome.{RunsTo, PrintsScript, PrintsRun, IsOutside, BadFile, Missing, TooLong, OutsideGrammar, IsBadInput, most_bytes}
+use Rattle.lo_tool.specs.Outside.{FilesState, SinkState, Took, TookFront, TookNothing, last_count, IsRead, content}
 use Rattle.lo_tool.specs.Printing.{Complains, Said, Failed, Prints, Printed, Lost}
 use Rattle.lo_tool.specs.Reading.{IsStop, IsReadWithin, RunsBytes, RunsFile}
-use Rattle.lo_tool.specs.Status.{IsDone, IsUsage, IsRefusedInput, IsErrorLine, FaultLine, UsageLine, InputLine, SaidFront, PrintedFront, IsFault, IsNoMemory, IsFaultless, Leaves}
+use Rattle.lo_tool.specs.Status.{IsDone, IsUsage, IsRefusedInput, IsErrorLine, FaultLine, UsageLine, InputLine, SaidFront, PrintedFront, IsFault, IsNoMemory, IsFaultless, IsRunnable, NoneRose, EndsWell, Completed, WantsMemory, Leaves}
 use Rattle.lo_tool.specs.Texts.{usage_line, fault_line}
 use Rattle.lo_tool.specs.Words.{script_file}
 
@@ -173,3 +175,44 @@ leaves_text words files files' out out' err err' text result run count (Lost is 
       not_refused = λ h. cc;
       faultless = λ h. absurd (h is);
     }
+
+none_is_not_some : {A : Type 0} (a : A) → None ≡ Some a → ⊥
+none_is_not_some a h = cc
+
+same_some : {A : Type 0} (a b : A) → Some a ≡ Some b → a ≡ b
+same_some a b h = cc
+
+no_script : (script : ScriptText) → None ≡ Some script → ⊥
+no_script script h = cc
+
+bytes_of_content : (file : Option File) (bytes : List ℕ) → content file ≡ Some bytes → bytes_of file ≡ bytes
+bytes_of_content None bytes h = cc
+bytes_of_content (Some file) bytes h = same_some file.bytes bytes h
+
+-- a file that is there, not too long and in the grammar is no bad input
+not_bad : (files : FilesState) (name bytes line : List ℕ) (script : ScriptText) → IsTrue files.tells → content (files.folder name) ≡ Some bytes → length bytes ≤ most_bytes → script_of bytes ≡ Some script → BadFile files name line → ⊥
+not_bad files name bytes line script tells there within spells (Missing gone said) = none_is_not_some bytes (sym (ap content (gone tells)) ∙ there)
+not_bad files name bytes line script tells there within spells (TooLong long said) =
+    let same : bytes_of (files.folder name) ≡ bytes = bytes_of_content (files.folder name) bytes there in
+    omega (arith, long tells, ap (λ (xs : List ℕ). length xs) same, within)
+not_bad files name bytes line script tells there within spells (OutsideGrammar read is_read outside) =
+    let same : read ≡ bytes = same_some read bytes (sym (is_read.told tells) ∙ there) in
+    no_script script (sym outside.none ∙ (ap script_of same ∙ spells))
+
+not_said : (words : List (List ℕ)) (files : FilesState) (line : List ℕ) → IsRunnable words files → IsBadInput words files line → ⊥
+not_said words files line runnable bad =
+    let name : bad.name ≡ runnable.name = same_some bad.name runnable.name (sym bad.command ∙ runnable.command) in
+    not_bad files runnable.name runnable.bytes line runnable.script runnable.tells runnable.there runnable.within runnable.spells (subst (λ (given : List ℕ). BadFile files given line) name bad.bad)
+
+not_risen : (files files' : FilesState) (out out' err err' : SinkState) → NoneRose files files' out out' err err' → Rose files.faults files'.faults ⊎ (Rose out.faults out'.faults ⊎ Rose err.faults err'.faults) → ⊥
+not_risen files files' out out' err err' none (inl rose) = none.files_stand rose
+not_risen files files' out out' err err' none (inr (inl rose)) = none.out_stands rose
+not_risen files files' out out' err err' none (inr (inr rose)) = none.err_stands rose
+
+pub completes : (words : List (List ℕ)) (files files' : FilesState) (out out' err err' : SinkState) (status : Status) → Leaves words files files' out out' err err' status → IsRunnable words files → NoneRose files files' out out' err err' → EndsWell status
+completes words files files' out out' err err' Done leaves runnable none = Completed refl
+completes words files files' out out' err err' Refused leaves runnable none = absurd (leaves.not_refused refl)
+completes words files files' out out' err err' Usage leaves runnable none = absurd (none_is_not_some runnable.name (sym (leaves.usage refl).no_command ∙ runnable.command))
+completes words files files' out out' err err' BadInput leaves runnable none = absurd (not_said words files (leaves.bad_input refl).line runnable (leaves.bad_input refl).bad)
+completes words files files' out out' err err' Fault leaves runnable none = absurd (not_risen files files' out out' err err' none (leaves.fault refl).cause)
+completes words files files' out out' err err' NoMemory leaves runnable none = WantsMemory refl

@@ -1,9 +1,10 @@
-use Rattle.std.specs.Prelude.{◌≡◌, ◌≢◌, ℕ, ◌<◌, ◌≤◌, ◌⊎◌, List, None}
+use Rattle.std.specs.Prelude.{◌≡◌, ◌≢◌, ℕ, ◌<◌, ◌≤◌, ◌⊎◌, List, length, Some, None, IsTrue}
+use Rattle.lo_script.specs.Script.{ScriptText, script_of}
 use Rattle.lo_outside.specs.Faults.{Rose}
 use Rattle.lo_tool.specs.declared.run.Status.{Status}
 use Rattle.lo_tool.specs.declared.run.Status.TheVariants.{Done, Refused, Usage, BadInput, Fault, NoMemory}
-use Rattle.lo_tool.specs.Outside.{FilesState, SinkState, Took, TookFront, TookNothing, last_count}
-use Rattle.lo_tool.specs.Outcome.{PrintsRun, IsBadInput}
+use Rattle.lo_tool.specs.Outside.{FilesState, SinkState, Took, TookFront, TookNothing, last_count, content}
+use Rattle.lo_tool.specs.Outcome.{PrintsRun, IsBadInput, most_bytes}
 use Rattle.lo_tool.specs.Texts.{usage_line, fault_line}
 use Rattle.lo_tool.specs.Words.{script_file}
 
@@ -68,6 +69,28 @@ pub record IsFaultless (files files' : FilesState) (out out' err err' : SinkStat
   pub files_count : files'.faults ≡ files.faults
   pub out_count : out'.faults ≡ out.faults
   pub err_count : err'.faults ≡ err.faults
+
+-- the words are a command, and its file is there, not too long and in the grammar
+pub record IsRunnable (words : List (List ℕ)) (files : FilesState) : Type 0 where
+  pub name : List ℕ
+  pub bytes : List ℕ
+  pub script : ScriptText
+  pub command : script_file words ≡ Some name
+  pub tells : IsTrue files.tells
+  pub there : content (files.folder name) ≡ Some bytes
+  pub within : length bytes ≤ most_bytes
+  pub spells : script_of bytes ≡ Some script
+
+-- no count of faults rose
+pub record NoneRose (files files' : FilesState) (out out' err err' : SinkState) : Type 0 where
+  pub files_stand : Rose files.faults files'.faults → ⊥
+  pub out_stands : Rose out.faults out'.faults → ⊥
+  pub err_stands : Rose err.faults err'.faults → ⊥
+
+-- a command that has all it needs is done, or memory is wanting
+pub data EndsWell (status : Status) : Type 0 where
+  Completed : status ≡ Done → EndsWell status
+  WantsMemory : status ≡ NoMemory → EndsWell status
 
 -- all of it
 pub record Leaves (words : List (List ℕ)) (files files' : FilesState) (out out' err err' : SinkState) (status : Status) : Type 0 where

@@ -1,6 +1,6 @@
 ghost use Rattle.std.specs.Prelude.{◌≡◌, ◌≢◌, map, string_bytes};
 ghost use Rattle.lo_tool.specs.Reading.{HasStopCause, RunsFile};
-ghost use Rattle.lo_tool.specs.Status.{IsDone, IsUsage, IsRefusedInput, IsFault, IsNoMemory, IsFaultless, Leaves};
+ghost use Rattle.lo_tool.specs.Status.{IsDone, IsUsage, IsRefusedInput, IsFault, IsNoMemory, IsFaultless, IsRunnable, NoneRose, EndsWell, Leaves};
 
 use crate::playing::run_script;
 use crate::printing::{complain, print, report_fault};
@@ -49,6 +49,11 @@ pub fn run<R: Threads + Sync, F: Files, O: Sink, G: Gate + Sync>(
 
     // Where a count of faults rose, no other answer comes.
     ensures faultless { result ≢ Status.Fault → IsFaultless (record { tells = F.tells files.old; folder = F.folder files.old; faults = F.faults files.old }) (record { tells = F.tells files.new; folder = F.folder files.new; faults = F.faults files.new }) (record { tells = O.tells out.old; taken = O.taken out.old; faults = O.faults out.old }) (record { tells = O.tells out.new; taken = O.taken out.new; faults = O.faults out.new }) (record { tells = O.tells err.old; taken = O.taken err.old; faults = O.faults err.old }) (record { tells = O.tells err.new; taken = O.taken err.new; faults = O.faults err.new }) }
+
+    // A command that has all it needs is done, or memory is wanting.
+    ensures complete { IsRunnable (map string_bytes words.now) (record { tells = F.tells files.old; folder = F.folder files.old; faults = F.faults files.old }) →
+        NoneRose (record { tells = F.tells files.old; folder = F.folder files.old; faults = F.faults files.old }) (record { tells = F.tells files.new; folder = F.folder files.new; faults = F.faults files.new }) (record { tells = O.tells out.old; taken = O.taken out.old; faults = O.faults out.old }) (record { tells = O.tells out.new; taken = O.taken out.new; faults = O.faults out.new }) (record { tells = O.tells err.old; taken = O.taken err.old; faults = O.faults err.old }) (record { tells = O.tells err.new; taken = O.taken err.new; faults = O.faults err.new }) →
+        EndsWell result }
 
     ensures folder { F.folder files.new ≡ F.folder files.old }
     ensures tells { F.tells files.new ≡ F.tells files.old }
