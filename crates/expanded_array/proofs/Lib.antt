@@ -1,0 +1,12 @@
+mod ArrayLaws
+mod Bits
+mod ColonLaws
+mod Elements
+mod Examples
+mod FlatLaws
+mod Fronts
+mod Places
+mod SetLaws
+mod SpellingLaws
+mod Uniqueness
+mod Written

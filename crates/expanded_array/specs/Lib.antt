@@ -1,0 +1,7 @@
+pub mod Answer
+pub mod Array
+pub mod Flat
+pub mod Kept
+pub mod Layout
+pub mod Text
+pub mod Spelling

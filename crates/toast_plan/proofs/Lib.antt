@@ -1,0 +1,12 @@
+pub mod Examples
+pub mod RoundLaws
+pub mod Lengths
+pub mod OutcomeLaws
+pub mod PlanLaws
+pub mod ColumnLaws
+pub mod PointerLaws
+pub mod Pieces
+pub mod FieldSteps
+pub mod RowLaws
+pub mod ReadingLaws
+pub mod CellLaws

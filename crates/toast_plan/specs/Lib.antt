@@ -1,0 +1,9 @@
+pub mod Columns
+pub mod Layout
+pub mod Choice
+pub mod Rounds
+pub mod Laws
+pub mod Pointer
+pub mod Row
+pub mod Writing
+pub mod Reading
