@@ -37,12 +37,13 @@ impl Files for Told {
     }
 
     fn read(&mut self, _name: &str, at: u64, out: &mut [u8]) -> Result<usize, Failed> {
-        let mut count = 0;
-        for (place, byte) in out.iter_mut().zip(self.bytes.iter().skip(at as usize)) {
-            *place = *byte;
-            count += 1;
-        }
-        Ok(count)
+        let rest = match self.bytes.get(at as usize..) {
+            Some(rest) => rest,
+            None => &[],
+        };
+        let n = rest.len().min(out.len());
+        out[..n].copy_from_slice(&rest[..n]);
+        Ok(n)
     }
 }
 
