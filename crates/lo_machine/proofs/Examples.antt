@@ -1,5 +1,5 @@
 -- Worked examples of steps and runs, each computed by the checker: a wrong one fails the crate.
-use Rattle.std.proofs.Common.{◌≡◌, refl, ℕ, pos, List, [], ◌∷◌, Some, None, replicate}
+use Rattle.std.proofs.Common.{◌≡◌, refl, pos, List, [], ◌∷◌, None, replicate}
 use Rattle.std.specs.Prelude.{Bool}
 use Rattle.lo_base.specs.declared.column.Column.{Column}
 use Rattle.lo_base.specs.declared.value.Value.{Value}
@@ -8,7 +8,7 @@ use Rattle.lo_base.specs.declared.reply.Reply.TheVariants.{Word, Number, Content
 use Rattle.lo_base.specs.declared.reply.Word.TheVariants.{Ok}
 use Rattle.lo_base.specs.declared.request.Request.{Request}
 use Rattle.lo_base.specs.declared.request.Request.TheVariants.{LoCreate, LoPut, LoGet}
-use Rattle.lo_model.specs.Opening.{Opening, opened}
+use Rattle.lo_model.specs.Opening.{opened}
 use Rattle.lo_machine.specs.Run.{replies_of, empty_database}
 
 -- the empty database is the one that an opening without tables and objects gives, whatever the plan of rows

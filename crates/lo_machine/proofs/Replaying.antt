@@ -1,20 +1,19 @@
 -- One advance more keeps a run's replay.
-use Rattle.std.proofs.Common.{◌≡◌, ◌≢◌, ℕ, ◌+◌, ◌-◌, ◌<◌, ◌≤◌, ◌==◌, true, false, List, [], ◌∷◌, ◌++◌, length, set, get_or, Option, Some, None, refl, ap, sym, ◌∙◌, subst, arith, append_assoc, append-nil, length-set, inl, inr}
-use Rattle.std.specs.Prelude.{slice_get, slice_index, IsSome}
+use Rattle.std.proofs.Common.{◌≡◌, ◌≢◌, ℕ, ◌+◌, ◌<◌, ◌≤◌, List, [], ◌∷◌, ◌++◌, length, set, get_or, Some, refl, ap, sym, ◌∙◌, subst, arith, append_assoc, append-nil, length-set, inl, inr}
+use Rattle.std.specs.Prelude.{slice_get, IsSome}
 use Rattle.std.proofs.lemmas.Bool.{cases_eq}
 use Rattle.std.proofs.lemmas.Bool.Decides.{nat_tests}
 use Rattle.std.proofs.lemmas.List.{get_or-set_same, get_or-set_other}
-use Rattle.std.proofs.lemmas.Option.{slice_get_within, slice_get_past, slice_get_cases}
+use Rattle.std.proofs.lemmas.Option.{slice_get_within, slice_get_past}
 use Rattle.lo_base.specs.declared.reply.Reply.{Reply}
 use Rattle.lo_base.specs.declared.request.Request.{Request}
-use Rattle.lo_machine.specs.declared.engine.Engine.{Engine}
 use Rattle.lo_machine.specs.declared.running.Running.TheInside.{Inside}
 use Rattle.lo_machine.specs.Engine.{StandsFor}
 use Rattle.lo_machine.specs.Program.{program_of}
 use Rattle.lo_machine.specs.Replay.{Play, Replays, Advances, moment_of}
-use Rattle.lo_machine.specs.Run.{Moment, start, next_line, one_more, moment_after, replies_at, replies_from, end_from, replies_of, end_of}
+use Rattle.lo_machine.specs.Run.{Moment, start, next_line, one_more, moment_after, replies_at, replies_from, end_from, replies_of}
 use Rattle.lo_machine.specs.Running.{play_of, IsReplay}
-use Rattle.lo_machine.specs.Step.{State, reply_to, state_after}
+use Rattle.lo_machine.specs.Step.{reply_to, state_after}
 
 end_more : (programs : List (List Request)) (m : Moment) (schedule : List ℕ) (s : ℕ) → end_from programs m (schedule ++ s ∷ []) ≡ moment_after (end_from programs m schedule) s (next_line programs (end_from programs m schedule) s)
 end_more programs m [] s = refl

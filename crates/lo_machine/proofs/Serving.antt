@@ -1,6 +1,6 @@
 -- From what a request does to the objects that the engine keeps, to the step of every state that it stood for.
-use Rattle.std.proofs.Common.{◌≡◌, ℕ, ℤ, ◌+◌, Bool, true, false, List, [], ◌∷◌, ◌++◌, map, Option, Some, None, cond, refl, ap, sym, ◌∙◌, subst, arith}
-use Rattle.std.specs.Prelude.{filter, All, Result, IfOk, OnErr}
+use Rattle.std.proofs.Common.{◌≡◌, ℕ, ℤ, ◌+◌, true, List, [], ◌∷◌, ◌++◌, Option, None, refl, ap, sym, ◌∙◌, subst, arith}
+use Rattle.std.specs.Prelude.{All, Result}
 use Rattle.std.proofs.lemmas.Bool.Decides.{nat_tests}
 use Rattle.std.proofs.lemmas.List.{map-append}
 use Rattle.std.proofs.lemmas.List.Elements.{All-append, All-cons, All-head, All-nil, All-tail, All-weaker}
@@ -19,7 +19,7 @@ use Rattle.lo_model.specs.Object.{object_in, object_after, object_after_all}
 use Rattle.lo_model.specs.View.{sees, sees_edit, view}
 use Rattle.lo_machine.specs.declared.engine.Engine.{Engine}
 use Rattle.lo_machine.specs.Engine.{StandsFor, Serves, Does, kept}
-use Rattle.lo_machine.specs.Step.{State, Outcome, object_now, outcome, after_deeds, state_after, reply_to, created, put, got, place_of}
+use Rattle.lo_machine.specs.Step.{State, Outcome, object_now, outcome, after_deeds, created, put, got, place_of}
 
 -- what nobody sees is not only another's: a committed edit is in every view of its clock
 seen_by_all : (clock made : ℕ) (viewer : Viewer) (owner : Owner) → sees clock Nobody made owner ≡ true → sees clock viewer made owner ≡ true

@@ -1,9 +1,7 @@
-use Rattle.std.specs.Prelude.{◌≡◌, ℕ, ◌≤◌, ◌-◌, List, [], ◌∷◌, ◌++◌, length, All, IsSome, slice_index}
+use Rattle.std.specs.Prelude.{◌≡◌, ℕ, List, [], ◌∷◌, ◌++◌, IsSome}
 use Rattle.lo_base.specs.declared.reply.Reply.{Reply}
 use Rattle.lo_base.specs.declared.request.Request.{Request}
-use Rattle.lo_machine.specs.Program.{program_of}
 use Rattle.lo_machine.specs.Run.{Moment, next_line, moment_after, replies_at, replies_of, end_of}
-use Rattle.lo_machine.specs.Spelled.{IsSpelled}
 
 -- What contracts see of a run: the programs that it was given, the schedule so far, and the replies, each with its
 -- session.

@@ -1,4 +1,4 @@
-use Rattle.std.specs.Prelude.{◌≡◌, ℕ, ◌+◌, ◌-◌, ◌<◌, ◌≤◌, List, length, slice_index}
+use Rattle.std.specs.Prelude.{◌≡◌, ℕ, ◌+◌, ◌<◌, ◌≤◌, length, slice_index}
 use Rattle.lo_machine.specs.declared.running.Running.TheInside.{Inside}
 use Rattle.lo_machine.specs.Engine.{StandsFor}
 use Rattle.lo_machine.specs.Program.{program_of}

@@ -10,7 +10,7 @@ use Rattle.lo_model.specs.declared.owner.Owner.TheVariants.{Committed}
 use Rattle.lo_model.specs.declared.viewer.Viewer.TheVariants.{Whole}
 use Rattle.lo_model.specs.Clock.{clock_after}
 use Rattle.lo_model.specs.Database.{Database}
-use Rattle.lo_model.specs.Edit.{Deed, Create, Write, Edit, edits_by}
+use Rattle.lo_model.specs.Edit.{Deed, Create, Write, edits_by}
 use Rattle.lo_model.specs.Object.{object_in}
 use Rattle.lo_model.specs.View.{view}
 

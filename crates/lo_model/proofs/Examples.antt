@@ -72,6 +72,14 @@ seen_after_its_commit = refl
 kept_view_stays : object_in 5 (view 5 (Whole 3) (committed 2 6 written_and_open)) ≡ Some (1 ∷ [])
 kept_view_stays = refl
 
+-- its own view from before the write does not have it either
+own_later_edit_is_not_seen : object_in 5 (view 4 (Whole 2) written_and_open) ≡ Some (1 ∷ [])
+own_later_edit_is_not_seen = refl
+
+-- nor does a view at the very clock of the commit, though the edit was made before it
+commit_of_its_own_clock_is_not_seen : object_in 5 (view 6 (Whole 3) (committed 2 6 written_and_open)) ≡ Some (1 ∷ [])
+commit_of_its_own_clock_is_not_seen = refl
+
 -- a view kept at clock 2 does not see the edit committed at clock 2 itself
 own_clock_is_not_seen : object_in 5 (view 2 Nobody written_and_open) ≡ Some []
 own_clock_is_not_seen = refl
@@ -86,6 +94,10 @@ two_levels =
 -- the session's view below level 2 has the bytes of level 1
 below_a_level : object_in 5 (view 6 (Below 1 2) two_levels) ≡ Some (65 ∷ [])
 below_a_level = refl
+
+-- the view of another session below a level has none of it
+below_a_level_of_another : object_in 5 (view 6 (Below 2 9) two_levels) ≡ Some []
+below_a_level_of_another = refl
 
 -- undoing level 2 gives the parent's bytes back
 undone_level : object_in 5 (view 7 (Whole 1) (undone 1 2 two_levels)) ≡ Some (65 ∷ [])
@@ -149,6 +161,10 @@ cut_in_the_block_of_a_write = refl
 -- an unlink touches all blocks, and the lowest session of several is named
 unlink_touches_all : busy_with 2 (touched (Unlink 5)) open_writes ≡ Some 1
 unlink_touches_all = refl
+
+-- an object that another session has created, and not committed, is busy at every place
+created_and_open : busy_with 2 (touched (Write 7 9000 (67 ∷ []))) (made_at 3 (Running 1 1) (Create 7) ∷ []) ≡ Some 1
+created_and_open = refl
 
 -- committed edits are in nobody's way
 committed_is_free : busy_with 2 (touched (Unlink 5)) (committed 1 5 (committed 3 5 open_writes)) ≡ None

@@ -1,6 +1,6 @@
 -- What a command leaves, from how each of its parts ended.
-use Rattle.std.proofs.Common.{◌≡◌, ◌≢◌, ℕ, ◌<◌, ◌≤◌, List, Some, None, inl, inr, refl, ap, sym, ◌∙◌, subst, length, arith}
-use Rattle.std.specs.Prelude.{Option, Result, IfOk, IfErr, IsTrue, ◌⊎◌}
+use Rattle.std.proofs.Common.{◌≡◌, ℕ, ◌<◌, ◌≤◌, List, Some, None, inl, inr, refl, ap, sym, ◌∙◌, subst, length, arith}
+use Rattle.std.specs.Prelude.{Option, Result, IsTrue, ◌⊎◌}
 use Rattle.std.proofs.lemmas.Result.{IfOk-weaker, IfErr-weaker}
 use Rattle.lo_outside.specs.Faults.{Rose}
 use Rattle.lo_outside.specs.Files.{File, bytes_of}
@@ -10,10 +10,10 @@ use Rattle.lo_tool.specs.declared.run.Status.TheVariants.{Done, Refused, Usage, 
 use Rattle.lo_tool.specs.declared.stop.Stop.{Stop}
 use Rattle.lo_tool.specs.declared.stop.Stop.TheVariants.{BadInput as Input, Fault as Failing, NoMemory as OutOfMemory}
 use Rattle.lo_tool.specs.Outcome.{RunsTo, PrintsScript, PrintsRun, IsOutside, BadFile, Missing, TooLong, OutsideGrammar, IsBadInput, most_bytes}
-use Rattle.lo_tool.specs.Outside.{FilesState, SinkState, Took, TookFront, TookNothing, last_count, IsRead, content}
+use Rattle.lo_tool.specs.Outside.{FilesState, SinkState, Took, TookNothing, last_count, IsRead, content}
 use Rattle.lo_tool.specs.Printing.{Complains, Said, Failed, Prints, Printed, Lost}
 use Rattle.lo_tool.specs.Reading.{IsStop, IsReadWithin, RunsBytes, RunsFile}
-use Rattle.lo_tool.specs.Status.{IsDone, IsUsage, IsRefusedInput, IsErrorLine, FaultLine, UsageLine, InputLine, SaidFront, PrintedFront, IsFault, IsNoMemory, IsFaultless, IsRunnable, NoneRose, EndsWell, Completed, WantsMemory, Leaves}
+use Rattle.lo_tool.specs.Status.{FaultLine, UsageLine, InputLine, SaidFront, IsRunnable, NoneRose, EndsWell, Completed, WantsMemory, Leaves}
 use Rattle.lo_tool.specs.Texts.{usage_line, fault_line}
 use Rattle.lo_tool.specs.Words.{script_file}
 

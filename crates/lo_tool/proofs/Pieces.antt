@@ -1,5 +1,5 @@
 -- One more piece of a text.
-use Rattle.std.proofs.Common.{◌≡◌, ℕ, ◌+◌, ◌-◌, ◌≤◌, List, ◌++◌, take, drop, length, min, refl, sym, ap, ◌∙◌, append_assoc, take-add, take-take, length-drop, length-append, arith}
+use Rattle.std.proofs.Common.{◌≡◌, ℕ, ◌+◌, ◌-◌, ◌≤◌, List, ◌++◌, take, drop, length, min, sym, ap, ◌∙◌, append_assoc, take-add, take-take, length-drop, length-append, arith}
 use Rattle.std.proofs.lemmas.List.{length-take}
 use Rattle.std.proofs.lemmas.Grind.{common_steps}
 

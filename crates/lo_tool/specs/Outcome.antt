@@ -1,6 +1,6 @@
-use Rattle.std.specs.Prelude.{◌≡◌, ℕ, ◌<◌, ◌≤◌, List, length, Option, Some, None, IsTrue}
+use Rattle.std.specs.Prelude.{◌≡◌, ℕ, ◌<◌, ◌≤◌, List, length, Some, None, IsTrue}
 use Rattle.lo_machine.specs.Run.{replies_of, schedule_of}
-use Rattle.lo_outside.specs.Files.{File, bytes_of}
+use Rattle.lo_outside.specs.Files.{bytes_of}
 use Rattle.lo_script.specs.ReplyText.{lines_of}
 use Rattle.lo_script.specs.Script.{ScriptText, script_of}
 use Rattle.lo_tool.specs.Outside.{FilesState, IsRead}

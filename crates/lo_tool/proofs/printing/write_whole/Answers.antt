@@ -1,4 +1,4 @@
-use Rattle.std.proofs.Common.{◌≡◌, ◌∙◌, subst, sym, IsTrue}
+use Rattle.std.proofs.Common.{◌∙◌}
 use Rattle.lo_tool.proofs.Pieces.{added_more, within_more}
 use Rattle.lo_tool.proofs.printing.write_whole.Goals as goal
 

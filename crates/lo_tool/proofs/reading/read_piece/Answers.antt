@@ -1,4 +1,4 @@
-use Rattle.std.proofs.Common.{◌≡◌, IsTrue, take, drop, length}
+use Rattle.std.proofs.Common.{take, drop}
 use Rattle.lo_outside.specs.Files.{bytes_of}
 use Rattle.lo_tool.proofs.Pieces.{front_more}
 use Rattle.lo_tool.proofs.reading.read_piece.Goals as goal

@@ -1,4 +1,4 @@
-use Rattle.std.proofs.Common.{◌≡◌, replicate, [], vec_len}
+use Rattle.std.proofs.Common.{◌≡◌, replicate, []}
 use Rattle.lo_machine.proofs.programs.Programs.new.Given as goal
 
 abbrev pub invariant-loop-session : goal.invariant-loop-session

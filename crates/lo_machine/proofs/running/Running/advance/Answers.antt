@@ -1,15 +1,14 @@
-use Rattle.std.proofs.Common.{◌≡◌, ℕ, ◌+◌, ◌<◌, get_or, length, set, Some, List, ◌++◌, refl, ap, sym, ◌∙◌, arith, rules, subst}
+use Rattle.std.proofs.Common.{◌≡◌, ℕ, ◌+◌, ◌<◌, get_or, length, set, Some, List, refl, ap, sym, ◌∙◌, arith, rules, subst}
 use Rattle.std.specs.Prelude.{slice_get, IsSome}
 use Rattle.std.specs.Vec.{with_item}
 use Rattle.std.proofs.lemmas.List.{get_or_default}
 use Rattle.std.proofs.lemmas.Option.{slice_get_read}
-use Rattle.lo_base.specs.declared.reply.Reply.{Reply}
 use Rattle.lo_base.specs.declared.request.Request.{Request}
 use Rattle.lo_machine.specs.Program.{program_of}
-use Rattle.lo_machine.specs.Replay.{Play, HasLine, Advances, moment_of}
+use Rattle.lo_machine.specs.Replay.{Play, HasLine, moment_of}
 use Rattle.lo_machine.specs.Run.{next_line}
 use Rattle.lo_machine.specs.Running.{play_of}
-use Rattle.lo_machine.proofs.Replaying.{AdvancedBy, StaysBy, advanced, stayed, advances, slice_get_some_within}
+use Rattle.lo_machine.proofs.Replaying.{AdvancedBy, advanced, stayed, advances, slice_get_some_within}
 use Rattle.lo_machine.proofs.running.Running.advance.Goals as goal
 
 pub invariant_of-self-in_err-reply : goal.invariant_of-self-in_err-reply
