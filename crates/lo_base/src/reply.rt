@@ -14,5 +14,11 @@ pub enum Reply {
 /// A reply that is a fixed word.
 #[derive(Clone, Copy, Debug, PartialEq, Eq)]
 pub enum Word {
+    Begin,
+    Commit,
+    Rollback,
+    Savepoint,
+    Release,
+    Vacuum,
     Ok,
 }
