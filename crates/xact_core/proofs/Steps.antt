@@ -61,11 +61,19 @@ views_of-more (y ∷ ys) x = omega (arith, length-append ys (x ∷ []))
 count_set : (sessions : List Opened) (i : ℕ) (new : Opened) → i < length sessions → sum_by views_in (slice_set sessions i new) + views_in (opened_at sessions i) ≡ sum_by views_in sessions + views_in new
 count_set sessions i new within = sum_by-set views_in sessions i new nothing within
 
+-- a session with no more levels than before has no more views
+pub count_fewer : (sessions : List Opened) (i : ℕ) (new : Opened) (held : List Snapshot) → i < length sessions → length new.names ≤ length (opened_at sessions i).names → views_count (slice_set sessions i new) held ≤ views_count sessions held
+count_fewer sessions i new held within less = omega (arith, count_set sessions i new within, views_of-le new.names (opened_at sessions i).names less)
+
+-- one more level gives a session at most two more views
+pub count_two : (sessions : List Opened) (i : ℕ) (name : Option (List ℕ)) (place : ℕ) (held : List Snapshot) → i < length sessions → views_count (slice_set sessions i (with_level name place (opened_at sessions i))) held ≤ views_count sessions held + 2
+count_two sessions i name place held within = omega (arith, count_set sessions i (with_level name place (opened_at sessions i)) within, views_of-more (opened_at sessions i).names name)
+
 pub count_less : (sessions : List Opened) (i : ℕ) (new : Opened) (held : List Snapshot) → i < length sessions → length new.names ≤ length (opened_at sessions i).names → views_count sessions held < 2 ^ 64 → views_count (slice_set sessions i new) held < 2 ^ 64
-count_less sessions i new held within less few = omega (arith, count_set sessions i new within, views_of-le new.names (opened_at sessions i).names less)
+count_less sessions i new held within less few = omega (arith, count_fewer sessions i new held within less)
 
 pub count_more : (sessions : List Opened) (i : ℕ) (name : Option (List ℕ)) (place : ℕ) (held : List Snapshot) → i < length sessions → views_count sessions held < 2 ^ 64 - 4 → views_count (slice_set sessions i (with_level name place (opened_at sessions i))) held < 2 ^ 64
-count_more sessions i name place held within few = omega (arith, count_set sessions i (with_level name place (opened_at sessions i)) within, views_of-more (opened_at sessions i).names name)
+count_more sessions i name place held within few = omega (arith, count_two sessions i name place held within)
 
 -- The end of a session's levels
 
@@ -147,6 +155,14 @@ count_there x v seen = ap (λ (u : Transactions). length (kept_views u)) (sym se
 pub few_there : (x : Inside) (v : Transactions) → seen_of x ≡ v → length (kept_views v) < 2 ^ 64 - 4 → views_count x.sessions.items x.held.items < 2 ^ 64 - 4
 few_there x v seen few = let counted : length (kept_views v) ≡ views_count x.sessions.items x.held.items = count_there x v seen in omega arith
 
+-- no view more is kept after an end
+pub ended_fewer : (x y : Inside) (v : Transactions) (e : End) (s : ℕ) (left : Opened → Opened) → seen_of x ≡ v → length (left (opened_at x.sessions.items (s - 1))).names ≤ length (opened_at x.sessions.items (s - 1)).names → IsXacts x → y.held.items ≡ x.held.items → IsEnded e s left x.sessions.items y.sessions.items x.fates.items y.fates.items → length (kept_views (seen_of y)) ≤ length (kept_views v)
+ended_fewer x y v e s left seen less well held ended = rw (length-kept_views y, count_there x v seen, held, ended.levels) (count_fewer x.sessions.items (s - 1) (left (opened_at x.sessions.items (s - 1))) x.held.items (omega (arith, well.well.sixteen, ended.low, ended.high)) less)
+
+-- as many views are kept where sessions and held views stay, at any clock
+pub count_stays : (x y : Inside) (v : Transactions) → seen_of x ≡ v → y.sessions.items ≡ x.sessions.items → y.held.items ≡ x.held.items → length (kept_views (seen_of y)) ≡ length (kept_views v)
+count_stays x y v seen sessions held = rw (length-kept_views y, count_there x v seen, held, sessions) refl
+
 -- One more level
 
 pub opened_xacts : (x y : Inside) (s : ℕ) (name : Option (List ℕ)) → views_count x.sessions.items x.held.items < 2 ^ 64 - 4 → IsXacts x → y.clock ≡ x.clock → y.undos ≡ x.undos → y.held.items ≡ x.held.items → IsOpened s name x.sessions.items y.sessions.items x.fates.items y.fates.items → IsXacts y
@@ -158,8 +174,11 @@ opened_xacts x y s name few well clock undos held opened =
       views = rw (held, opened.levels) (count_more x.sessions.items (s - 1) name (length x.fates.items) x.held.items (omega (arith, well.well.sixteen, opened.low, opened.high)) few);
     }
 
-pub opened_seen : (x y : Inside) (v : Transactions) (s : ℕ) (name : Option (List ℕ)) → seen_of x ≡ v → y.clock ≡ x.clock → y.undos ≡ x.undos → y.held.items ≡ x.held.items → IsOpened s name x.sessions.items y.sessions.items x.fates.items y.fates.items → Opens s name v (seen_of y)
-opened_seen x y v s name seen clock undos held opened =
+opened_count : (x y : Inside) (s : ℕ) (name : Option (List ℕ)) → IsXacts x → y.held.items ≡ x.held.items → IsOpened s name x.sessions.items y.sessions.items x.fates.items y.fates.items → length (kept_views (seen_of y)) ≤ length (kept_views (seen_of x)) + 2
+opened_count x y s name well held opened = rw (length-kept_views y, length-kept_views x, held, opened.levels) (count_two x.sessions.items (s - 1) name (length x.fates.items) x.held.items (omega (arith, well.well.sixteen, opened.low, opened.high)))
+
+pub opened_seen : (x y : Inside) (v : Transactions) (s : ℕ) (name : Option (List ℕ)) → seen_of x ≡ v → IsXacts x → y.clock ≡ x.clock → y.undos ≡ x.undos → y.held.items ≡ x.held.items → IsOpened s name x.sessions.items y.sessions.items x.fates.items y.fates.items → Opens s name v (seen_of y)
+opened_seen x y v s name seen well clock undos held opened =
     subst (λ (u : Transactions). Opens s name u (seen_of y)) seen
     (record {
       levels = rw (levels_seen x s) (levels_set x y s _ opened.levels);
@@ -167,6 +186,7 @@ opened_seen x y v s name seen clock undos held opened =
       clock = clock;
       undos = undos;
       held = held;
+      views = opened_count x y s name well held opened;
     })
 
 -- A session's top level

@@ -1,7 +1,8 @@
-use Rattle.std.specs.Prelude.{ℕ, ◌≡◌, List, [], ◌∷◌, ◌++◌, Option, Some, None, option_and_then, if◌then◌else◌}
+use Rattle.std.specs.Prelude.{ℕ, ◌+◌, ◌≤◌, ◌≡◌, List, [], ◌∷◌, ◌++◌, length, Option, Some, None, option_and_then, if◌then◌else◌}
 use Rattle.lo_model.specs.declared.owner.Owner.{Owner}
 use Rattle.lo_model.specs.Levels.{is_from_level, released_owner, committed_owner}
 use Rattle.xact_core.specs.declared.stamp.Stamp.{Stamp}
+use Rattle.xact_core.specs.Kept.{kept_views}
 use Rattle.xact_core.specs.Stamp.{owner_of, IsIssued}
 use Rattle.xact_core.specs.Transactions.{Transactions, levels_of, HasLevels}
 
@@ -26,10 +27,12 @@ undo s k owner = if is_from_level s k owner then None else Some owner
 abbrev pub commit_at : (session clock : ℕ) → Owner → Option Owner
 commit_at s c owner = Some (committed_owner s c owner)
 
--- A session has one level more, with a name or none. No owner changes, nor the clock nor what is held.
+-- A session has one level more, with a name or none. No owner changes, nor the clock nor what is held. At most two views
+-- more are kept: the one below the new level, and the session's whole one where it is the first.
 pub record Opens (session : ℕ) (name : Option (List ℕ)) (old new : Transactions) : Type 0 where
   pub levels : HasLevels session (levels_of old session ++ name ∷ []) old new
   pub owners : Turns same old new
   pub clock : new.clock ≡ old.clock
   pub undos : new.undos ≡ old.undos
   pub held : new.held ≡ old.held
+  pub views : length (kept_views new) ≤ length (kept_views old) + 2

@@ -68,7 +68,8 @@ impl Xacts {
     /// Moves the clock one up, for the next request.
     pub fn tick(&mut self)
         requires { self.old.clock < 2 ^ 63 }
-        ensures { self.new ≡ record self.old { clock = self.old.clock + 1 } }
+        ensures clock { self.new ≡ record self.old { clock = self.old.clock + 1 } }
+        ensures fewer { length (kept_views self.new) ≡ length (kept_views self.old) }
     {
         self.clock += 1;
     }
@@ -132,6 +133,7 @@ impl Xacts {
         ensures levels { HasLevels s (take (level - 1) (levels_of self.old s)) self.old self.new }
         ensures undos { self.new.undos ≡ self.old.undos }
         ensures rest { (self.new.clock ≡ self.old.clock) × (self.new.held ≡ self.old.held) }
+        ensures fewer { length (kept_views self.new) ≤ length (kept_views self.old) }
 
         // Each view has what another had before: the session's whole one what it had, and those of others too.
         ensures views { SeesAs (before_release s level) self.old self.new }
@@ -156,6 +158,7 @@ impl Xacts {
         ensures levels { HasLevels s (take level (levels_of self.old s)) self.old self.new }
         ensures undos { self.new.undos ≡ self.old.undos + 1 }
         ensures rest { (self.new.clock ≡ self.old.clock) × (self.new.held ≡ self.old.held) }
+        ensures fewer { length (kept_views self.new) ≤ length (kept_views self.old) }
 
         // Each view has what another had before: the session's whole one what was below the level.
         ensures views { SeesAs (before_undo s level) self.old self.new }
@@ -173,6 +176,7 @@ impl Xacts {
         ensures levels { HasLevels s [] self.old self.new }
         ensures undos { self.new.undos ≡ self.old.undos }
         ensures rest { (self.new.clock ≡ self.old.clock) × (self.new.held ≡ self.old.held) }
+        ensures fewer { length (kept_views self.new) ≤ length (kept_views self.old) }
 
         // Later views have all of the session's edits, and earlier ones none. No other edit comes or goes.
         ensures views { ShowsFrom s self.old.clock self.old self.new }
@@ -188,6 +192,7 @@ impl Xacts {
         ensures levels { HasLevels s [] self.old self.new }
         ensures undos { self.new.undos ≡ self.old.undos }
         ensures rest { (self.new.clock ≡ self.old.clock) × (self.new.held ≡ self.old.held) }
+        ensures fewer { length (kept_views self.new) ≤ length (kept_views self.old) }
 
         // Each view has what another had before: the session's whole one what was below level 1.
         ensures views { SeesAs (before_undo s 1) self.old self.new }
@@ -270,8 +275,9 @@ impl Xacts {
         }
     }
 
-    /// Whose the edit of a stamp is now, or nothing where it was undone.
-    fn owner(&self, stamp: Stamp) -> Option<Owner>
+    /// Whose the edit of a stamp is now: an open transaction's, at one of its levels, or a commit's. It is nobody's where
+    /// the edit was undone.
+    pub fn owner(&self, stamp: Stamp) -> Option<Owner>
         ensures { result ≡ owner_of self.now stamp }
     {
         let fate = self.fates.get(stamp.place())?;

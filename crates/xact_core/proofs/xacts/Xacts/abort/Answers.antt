@@ -3,7 +3,7 @@ use Rattle.xact_core.specs.declared.fate.End.TheVariants.{Aborted}
 use Rattle.xact_core.specs.Ends.{undo}
 use Rattle.xact_core.specs.Opened.{with_none}
 use Rattle.xact_core.proofs.EndLaws.{abort_turns}
-use Rattle.xact_core.proofs.Steps.{ended_levels, ended_turns, aborted_well, ended_count}
+use Rattle.xact_core.proofs.Steps.{ended_levels, ended_turns, aborted_well, ended_count, ended_fewer}
 use Rattle.xact_core.proofs.ViewLaws.{undo_views, undo_held}
 use Rattle.xact_core.proofs.xacts.Xacts.abort.Goals as goal
 
@@ -31,3 +31,8 @@ returns-clause-views c = record { sees = undo_views c.args.s 1 c.args.self.now _
 
 pub returns-clause-others : goal.returns-clause-others
 returns-clause-others c = record { sees = undo_held c.args.s 1 c.args.self.now _ (returns-clause-owners c) }
+
+pub returns-clause-fewer : goal.returns-clause-fewer
+returns-clause-fewer c =
+    ended_fewer c.self.inside (record { clock = c.self.inside.clock; undos = c.self.inside.undos; sessions = c.end_transaction.new.sessions; fates = c.end_transaction.new.fates; held = c.self.inside.held }) _ (Aborted c.args.s) c.args.s with_none
+    c.self.view_is (omega arith) c.self.invariant refl c.end_transaction.ensures

@@ -3,7 +3,7 @@ use Rattle.xact_core.specs.declared.fate.End.TheVariants.{Committed}
 use Rattle.xact_core.specs.Ends.{commit_at}
 use Rattle.xact_core.specs.Opened.{with_none}
 use Rattle.xact_core.proofs.EndLaws.{commit_turns}
-use Rattle.xact_core.proofs.Steps.{ended_levels, ended_turns, committed_well, ended_count}
+use Rattle.xact_core.proofs.Steps.{ended_levels, ended_turns, committed_well, ended_count, ended_fewer}
 use Rattle.xact_core.proofs.ViewLaws.{commit_shows, commit_spares, commit_held}
 use Rattle.xact_core.proofs.xacts.Xacts.commit.Goals as goal
 
@@ -34,3 +34,8 @@ returns-clause-views c =
       spared = commit_spares c.args.s c.args.self.now.clock c.args.self.now _ (returns-clause-owners c);
       earlier = commit_held c.args.s c.args.self.now.clock c.args.self.now _ (returns-clause-owners c) refl;
     }
+
+pub returns-clause-fewer : goal.returns-clause-fewer
+returns-clause-fewer c =
+    ended_fewer c.self.inside (record { clock = c.self.inside.clock; undos = c.self.inside.undos; sessions = c.end_transaction.new.sessions; fates = c.end_transaction.new.fates; held = c.self.inside.held }) _ (Committed c.args.s c.self.inside.clock) c.args.s with_none
+    c.self.view_is (omega arith) c.self.invariant refl c.end_transaction.ensures

@@ -3,7 +3,7 @@ use Rattle.xact_core.specs.declared.fate.End.TheVariants.{Released}
 use Rattle.xact_core.specs.Ends.{release}
 use Rattle.xact_core.specs.Opened.{with_first}
 use Rattle.xact_core.proofs.EndLaws.{release_turns}
-use Rattle.xact_core.proofs.Steps.{names_there, level_there, ended_levels, ended_turns, released_well, ended_count, taken}
+use Rattle.xact_core.proofs.Steps.{names_there, level_there, ended_levels, ended_turns, released_well, ended_count, ended_fewer, taken}
 use Rattle.xact_core.proofs.ViewLaws.{release_views, release_held}
 use Rattle.xact_core.proofs.xacts.Xacts.release_level.Goals as goal
 
@@ -31,3 +31,8 @@ returns-clause-views c = let low : 1 ≤ c.args.level = omega (arith, c.requires
 
 pub returns-clause-others : goal.returns-clause-others
 returns-clause-others c = let low : 1 ≤ c.args.level = omega (arith, c.requires.low) in record { sees = release_held c.args.s c.args.level c.args.self.now _ low (returns-clause-owners c) }
+
+pub returns-clause-fewer : goal.returns-clause-fewer
+returns-clause-fewer c =
+    ended_fewer c.self.inside (record { clock = c.self.inside.clock; undos = c.self.inside.undos; sessions = c.end_levels.new.sessions; fates = c.end_levels.new.fates; held = c.self.inside.held }) _ (Released c.args.s c.args.level) c.args.s (with_first (c.args.level - 1))
+    c.self.view_is (taken (c.args.level - 1) _) c.self.invariant refl c.end_levels.ensures

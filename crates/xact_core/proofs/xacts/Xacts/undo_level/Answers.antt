@@ -4,7 +4,7 @@ use Rattle.xact_core.specs.Ends.{undo}
 use Rattle.xact_core.specs.Opened.{with_first}
 use Rattle.xact_core.specs.Transactions.{Transactions}
 use Rattle.xact_core.proofs.EndLaws.{undo_turns}
-use Rattle.xact_core.proofs.Steps.{names_there, level_there, ended_levels, ended_turns, undone_well, ended_count, taken}
+use Rattle.xact_core.proofs.Steps.{names_there, level_there, ended_levels, ended_turns, undone_well, ended_count, ended_fewer, taken}
 use Rattle.xact_core.proofs.ViewLaws.{undo_views, undo_held}
 use Rattle.xact_core.proofs.xacts.Xacts.undo_level.Goals as goal
 
@@ -32,3 +32,8 @@ returns-clause-views c = record { sees = undo_views c.args.s c.args.level c.args
 
 pub returns-clause-others : goal.returns-clause-others
 returns-clause-others c = record { sees = undo_held c.args.s c.args.level c.args.self.now _ (returns-clause-owners c) }
+
+pub returns-clause-fewer : goal.returns-clause-fewer
+returns-clause-fewer c =
+    ended_fewer c.self.inside (record { clock = c.self.inside.clock; undos = c.self.inside.undos + 1; sessions = c.end_levels.new.sessions; fates = c.end_levels.new.fates; held = c.self.inside.held }) _ (Undone c.args.s c.args.level (c.self.inside.undos + 1)) c.args.s (with_first c.args.level)
+    c.self.view_is (taken c.args.level _) c.self.invariant refl c.end_levels.ensures
