@@ -1,4 +1,10 @@
+pub mod Acting
+pub mod Changing
 mod Examples
+pub mod Keeping
+pub mod Laying
+pub mod Naming
 pub mod Orders
 pub mod Replaying
-pub mod Serving
+pub mod Standing
+pub mod Stepping

@@ -61,6 +61,7 @@ covered_at_start programs order by s low = omega (arith, by.lines s low)
 
 pub whole : (programs : List (List Request)) (order : List ℕ) → IsOrderOf programs order → IsWhole programs (schedule_of order)
 whole programs order by = record {
+  sessions = by.sessions;
   playable = playable programs start order by.sessions (covered_at_start programs order by);
   complete = complete programs start order by.sessions (covered_at_start programs order by);
 }

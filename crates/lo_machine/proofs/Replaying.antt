@@ -1,14 +1,14 @@
 -- One advance more keeps a run's replay.
-use Rattle.std.proofs.Common.{◌≡◌, ◌≢◌, ℕ, ◌+◌, ◌<◌, ◌≤◌, List, [], ◌∷◌, ◌++◌, length, set, get_or, Some, refl, ap, sym, ◌∙◌, subst, arith, append_assoc, append-nil, length-set, inl, inr}
+use Rattle.std.proofs.Common.{◌≡◌, ◌≢◌, ℕ, ◌+◌, ◌<◌, ◌≤◌, List, [], ◌∷◌, ◌++◌, length, set, get_or, Some, refl, ap, sym, ◌∙◌, subst, arith, append_assoc, append-nil, length-set, length-append, false, true, inl, inr}
 use Rattle.std.specs.Prelude.{slice_get, IsSome}
-use Rattle.std.proofs.lemmas.Bool.{cases_eq}
+use Rattle.std.proofs.lemmas.Bool.{cases_eq, false≢true}
 use Rattle.std.proofs.lemmas.Bool.Decides.{nat_tests}
 use Rattle.std.proofs.lemmas.List.{get_or-set_same, get_or-set_other}
 use Rattle.std.proofs.lemmas.Option.{slice_get_within, slice_get_past}
 use Rattle.lo_base.specs.declared.reply.Reply.{Reply}
 use Rattle.lo_base.specs.declared.request.Request.{Request}
 use Rattle.lo_machine.specs.declared.running.Running.TheInside.{Inside}
-use Rattle.lo_machine.specs.Engine.{StandsFor}
+use Rattle.lo_machine.specs.Engine.{StandsFor, steps_of}
 use Rattle.lo_machine.specs.Program.{program_of}
 use Rattle.lo_machine.specs.Replay.{Play, Replays, Advances, moment_of}
 use Rattle.lo_machine.specs.Run.{Moment, start, next_line, one_more, moment_after, replies_at, replies_from, end_from, replies_of}
@@ -46,6 +46,8 @@ pub record AdvancedBy (s place : ℕ) (request : Request) (reply : Reply) (old n
   pub lines_done : new.lines_done.items ≡ set old.lines_done.items place (get_or old.lines_done.items place 0 + 1)
   pub answer : reply ≡ reply_to (moment_of (play_of old)).state s request
   pub stands : StandsFor new.engine (state_after (moment_of (play_of old)).state s request)
+  pub found : old.engine.is_lost ≡ false
+  pub steps : steps_of new.engine ≡ steps_of old.engine + 1
 
 moment_more : (s place : ℕ) (request : Request) (reply : Reply) (old new : Inside) → AdvancedBy s place request reply old new → moment_of (play_of new) ≡ moment_after (moment_of (play_of old)) s (Some request)
 moment_more s place request reply old new by =
@@ -83,6 +85,7 @@ advanced s place request reply old new keeps by = record {
       rw (by.replies, by.programs, by.schedule, replies_more old.programs start old.schedule.items s, keeps.replays)
       (ap (λ more. replies_of old.programs old.schedule.items ++ more) (sym (replies_at_line s place request reply old new by)));
   stands = subst (λ (m : Moment). StandsFor new.engine m.state) (sym (moment_more s place request reply old new by)) by.stands;
+  steps = λ found. rw (by.schedule, length-append old.schedule.items (s ∷ []), by.steps, keeps.steps by.found) refl;
   sessions = rw (by.lines_done, length-set) keeps.sessions;
   within = within_at s place request reply old new keeps by;
   lines_done = λ p low. done_at s place request reply old new keeps by p low ∙ ap (λ (m : Moment). m.lines_done (p + 1)) (sym (moment_more s place request reply old new by));
@@ -97,13 +100,13 @@ advances s place request reply old new seen is by = subst (λ (play : Play). Adv
   moment = moment_more s place request reply old new by ∙ ap (moment_after (moment_of (play_of old)) s) (sym by.line);
 }
 
--- want of memory leaves the lists, and an engine that stands for the same states
+-- want of memory leaves the lists, and loses the engine
 pub record StaysBy (old new : Inside) : Type 0 where
   pub programs : new.programs ≡ old.programs
   pub schedule : new.schedule.items ≡ old.schedule.items
   pub replies : new.replies.items ≡ old.replies.items
   pub lines_done : new.lines_done.items ≡ old.lines_done.items
-  pub stands : StandsFor new.engine (moment_of (play_of old)).state
+  pub lost : new.engine.is_lost ≡ true
 
 same_play : (old new : Inside) → StaysBy old new → play_of new ≡ play_of old
 same_play old new by = rw (by.programs, by.schedule, by.replies) refl
@@ -111,7 +114,8 @@ same_play old new by = rw (by.programs, by.schedule, by.replies) refl
 pub stayed : (old new : Inside) → IsReplay old → StaysBy old new → IsReplay new
 stayed old new keeps by = record {
   replays = subst Replays (sym (same_play old new by)) keeps.replays;
-  stands = subst (λ (play : Play). StandsFor new.engine (moment_of play).state) (sym (same_play old new by)) by.stands;
+  stands = record { told = λ found. absurd (false≢true (sym found ∙ by.lost)) };
+  steps = λ found. absurd (false≢true (sym found ∙ by.lost));
   sessions = ap (λ (xs : List ℕ). length xs) by.lines_done ∙ keeps.sessions;
   within = λ p low. rw (by.lines_done, by.programs) (keeps.within p low);
   lines_done = λ p low. ap (λ (xs : List ℕ). get_or xs p 0) by.lines_done ∙ (keeps.lines_done p low ∙ ap (λ (play : Play). (moment_of play).lines_done (p + 1)) (sym (same_play old new by)));

@@ -1,34 +1,75 @@
-use Rattle.std.specs.Prelude.{◌≡◌, ℕ, true, List, Option, All, Result, IfOk, OnErr}
-use Rattle.std.specs.Ordering.{nat_cmp}
-use Rattle.std.specs.BTreeMap.{get}
+use Rattle.std.specs.Prelude.{◌≡◌, ℕ, ◌+◌, ◌<◌, ◌≤◌, ◌^◌, true, false, List, length, Option, Some, None, All, Result, IfOk, OnErr}
 use Rattle.lo_base.specs.declared.memory.NoMemory.{NoMemory}
 use Rattle.lo_base.specs.declared.reply.Reply.{Reply}
 use Rattle.lo_base.specs.declared.request.Request.{Request}
-use Rattle.lo_model.specs.declared.viewer.Viewer.TheVariants.{Nobody}
-use Rattle.lo_model.specs.Clock.{clock_after}
 use Rattle.lo_model.specs.Edit.{Deed, Edit}
-use Rattle.lo_model.specs.Object.{object_in, object_after_all}
-use Rattle.lo_model.specs.View.{sees_edit}
+use Rattle.lo_model.specs.declared.owner.Owner.TheVariants.{Running}
+use Rattle.lo_machine.specs.declared.change.Change.{Change}
+use Rattle.lo_machine.specs.declared.change.StampedChange.{StampedChange}
 use Rattle.lo_machine.specs.declared.engine.Engine.{Engine}
-use Rattle.lo_machine.specs.Step.{State, Outcome, reply_to, state_after}
+use Rattle.lo_machine.specs.Block.{Block, with_block}
+use Rattle.lo_machine.specs.Blocks.{block_of}
+use Rattle.lo_machine.specs.Change.{standing, edits_on, after_seen}
+use Rattle.lo_machine.specs.History.{history_of, Adds}
+use Rattle.lo_machine.specs.Step.{State, Outcome, now, served, reply_to, state_after}
+use Rattle.xact_core.specs.Stamp.{made_at, owner_of, IsIssued}
+use Rattle.xact_core.specs.Transactions.{levels_of}
+use Rattle.xact_core.specs.declared.stamp.Stamp.{Stamp}
+use Rattle.xact_core.specs.declared.snapshot.Snapshot.{Snapshot}
 
--- the object that the engine keeps under a number
-abbrev pub kept : Engine → (oid : ℕ) → Option (List ℕ)
-kept e o = get nat_cmp e.objects o
+-- What an engine keeps at a clock: the sessions' blocks, and for each object the edits on it, in the order made. Those
+-- that were undone are still among its changes, and stand for no edit.
+pub record Keeps (e : Engine) (clock : ℕ) (edits : List (Edit Deed)) (blocks : (session : ℕ) → Block) : Type 0 where
+  pub time : e.blocks.xacts.clock ≡ clock
+  pub sessions : (s : ℕ) → 1 ≤ s → s ≤ 16 → block_of e.blocks s ≡ blocks s
+  pub objects : (o : ℕ) → standing e.blocks.xacts o (history_of e.history o) ≡ edits_on o edits
+  pub issued : (o : ℕ) → All (λ (made : StampedChange). IsIssued e.blocks.xacts made.stamp) (history_of e.history o)
 
--- Which states an engine stands for. It keeps each object as a list of bytes and no edit, so these are all states whose
--- edits are committed and fold to its objects.
+-- Which states an engine stands for. Nothing is told of one that found no memory.
 pub record StandsFor (e : Engine) (st : State) : Type 0 where
-  pub past : All (λ (edit : Edit Deed). sees_edit (clock_after st.advances) Nobody edit ≡ true) st.database.edits
-  pub objects : (o : ℕ) → kept e o ≡ object_in o st.database.edits
+  pub told : e.is_lost ≡ false → Keeps e st.advances st.database.edits st.blocks
+
+-- the number of requests that an engine has served
+abbrev pub steps_of : Engine → ℕ
+steps_of e = e.blocks.xacts.clock
+
+-- an engine that found no memory has nothing to count
+pub record HasRoom (e : Engine) : Type 0 where
+  pub steps : e.is_lost ≡ false → steps_of e < 2 ^ 62
 
 -- What a request does to an engine, from every state that it stood for: the reply is that of the step, and the engine then
--- stands for the next state. Want of memory leaves it standing for the same states.
+-- stands for the next state. One that finds no memory is lost, and stays so.
 pub record Serves (old new : Engine) (session : ℕ) (request : Request) (result : Result Reply NoMemory) : Type 0 where
   pub ok : IfOk result (λ reply. (st : State) → StandsFor old st → (reply ≡ reply_to st session request) × StandsFor new (state_after st session request))
-  pub err : OnErr result ((st : State) → StandsFor old st → StandsFor new st)
+  pub steps : IfOk result (λ reply. (old.is_lost ≡ false) × (new.is_lost ≡ false) × (steps_of new ≡ steps_of old + 1))
+  pub lost : OnErr result (new.is_lost ≡ true)
 
--- the same of one outcome, said of the objects that are kept
-pub record Does (old new : Engine) (outcome : Outcome) (result : Result Reply NoMemory) : Type 0 where
-  pub ok : IfOk result (λ reply. (reply ≡ outcome.reply) × ((o : ℕ) → kept new o ≡ object_after_all o (kept old o) outcome.deeds))
-  pub err : OnErr result ((o : ℕ) → kept new o ≡ kept old o)
+-- In the midst of a step its clock is counted already.
+abbrev pub KeepsAt : Engine → State → Type 0
+KeepsAt e st = Keeps e (now st) st.database.edits st.blocks
+
+-- what an outcome leaves
+abbrev pub Leaves : Engine → State → (session : ℕ) → Outcome → Type 0
+Leaves e st s done = Keeps e (now st) done.edits (with_block s done.block st.blocks)
+
+-- A reply and what was done are those of an outcome, from every state that the engine was in.
+pub record Does (old new : Engine) (session : ℕ) (outcome : State → Outcome) (reply : Reply) : Type 0 where
+  pub does : (st : State) → KeepsAt old st → (reply ≡ (outcome st).reply) × Leaves new st session (outcome st)
+  pub time : steps_of new ≡ steps_of old
+
+-- the same of a request that a failed block lets through
+abbrev pub serving : (session : ℕ) → Request → State → Outcome
+serving s request st = served st s request
+
+-- the object of a number in a view
+abbrev pub object_kept : Engine → Snapshot → (oid : ℕ) → Option (List ℕ)
+object_kept e v o = after_seen e.blocks.xacts v None (history_of e.history o)
+
+-- An object has one change more, which belongs to the session's top level and was made now.
+pub record Tops (old new : Engine) (session oid : ℕ) (change : Change) : Type 0 where
+  pub stamp : Stamp
+  pub made : made_at stamp ≡ old.blocks.xacts.clock
+  pub owner : owner_of old.blocks.xacts stamp ≡ Some (Running session (length (levels_of old.blocks.xacts session)))
+  pub issued : IsIssued old.blocks.xacts stamp
+  pub added : Adds oid (record { stamp = stamp; change = change }) old.history new.history
+  pub blocks : new.blocks ≡ old.blocks

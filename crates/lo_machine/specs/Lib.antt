@@ -1,4 +1,9 @@
+pub mod Block
+pub mod Blocks
+pub mod Change
+pub mod Counts
 pub mod Engine
+pub mod History
 pub mod Program
 pub mod Replay
 pub mod Run

@@ -2,6 +2,7 @@ use Rattle.std.specs.Prelude.{◌≡◌, ℕ, ◌+◌, ◌==◌, ◌≤◌, List
 use Rattle.lo_base.specs.declared.reply.Reply.{Reply}
 use Rattle.lo_base.specs.declared.request.Request.{Request}
 use Rattle.lo_model.specs.Database.{Database}
+use Rattle.lo_machine.specs.Block.{no_block}
 use Rattle.lo_machine.specs.Program.{program_of}
 use Rattle.lo_machine.specs.Step.{State, reply_to, state_after}
 
@@ -16,7 +17,7 @@ abbrev pub empty_database : Database
 empty_database = record { edits = []; tables = []; counter = 16384 }
 
 abbrev pub start : Moment
-start = record { state = record { advances = 0; database = empty_database }; lines_done = λ s. 0 }
+start = record { state = record { advances = 0; database = empty_database; blocks = λ s. no_block }; lines_done = λ s. 0 }
 
 -- the request of a session's next line, or none where no line is left
 abbrev pub next_line : List (List Request) → Moment → (session : ℕ) → Option Request
@@ -60,6 +61,7 @@ IsPlayable programs m (s ∷ schedule) =
 -- a schedule is whole where each of its advances is defined, and at its end no session has a line left. Sessions are
 -- numbered from 1
 pub record IsWhole (programs : List (List Request)) (schedule : List ℕ) : Type 0 where
+  pub sessions : All (λ session. 1 ≤ session) schedule
   pub playable : IsPlayable programs start schedule
   pub complete : (session : ℕ) → 1 ≤ session → next_line programs (end_of programs schedule) session ≡ None
 

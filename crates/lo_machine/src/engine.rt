@@ -1,88 +1,306 @@
-ghost use Rattle.std.specs.Prelude.{◌≡◌, ◌≤◌, ℕ, ℤ, pos, length, Option, IfOk};
-ghost use Rattle.lo_machine.specs.Engine.{StandsFor, Serves, Does, kept};
-ghost use Rattle.lo_machine.specs.Run.{start};
-ghost use Rattle.lo_machine.specs.Spelled.{IsSpelled, IsPutPlace, IsWhole, put_limit};
-ghost use Rattle.lo_machine.specs.Step.{created, put, got, place_of};
+ghost use Rattle.std.specs.Prelude.{◌≡◌, pos, false, ◌<◌, ◌≤◌, length, IfOk, OnOk};
+ghost use Rattle.lo_machine.specs.Spelled.{IsPutPlace};
+ghost use Rattle.lo_machine.specs.Step.{may_recover, place_of};
 
-use crate::object::laid_over;
-use lo_base::{Bytes, Cause, ListOf, NoMemory, Oid, Refusal, Reply, Request, SessionNo, Word};
+use crate::blocks::Blocks;
+use crate::change::{Change, StampedChange, content, exists, holder};
+use crate::history::History;
+use lo_base::{Bytes, Cause, Name, NoMemory, Oid, Refusal, Reply, Request, SessionNo, Word};
 use std::alloc::Global;
-use std::collections::BTreeMap;
-use std::collections::btree_map::Entry;
+use xact_core::Snapshot;
 
-/// Does one request after another. It keeps the committed bytes of each object, in an ordered map by number.
+/// Does one request after another. It keeps what was done to each object, and finds the object of a view by doing the
+/// changes again that the view has.
 #[derive(Drop)]
 pub struct Engine {
     alloc: Global,
-    objects: BTreeMap<Oid, Bytes>,
+    blocks: Blocks,
+    history: History,
+    /// Whether a request found no memory. Nothing is told then of what the engine keeps.
+    is_lost: bool,
 }
 
 impl Engine {
+    ghost use Rattle.lo_model.specs.declared.viewer.Viewer.TheVariants.{Whole};
+    ghost use Rattle.lo_machine.specs.Counts.{IsReady};
+    ghost use Rattle.lo_machine.specs.Engine.{StandsFor, Serves, Does, Tops, HasRoom, steps_of, object_kept};
+    ghost use Rattle.lo_machine.specs.Blocks.{block_of};
+    ghost use Rattle.lo_machine.specs.Change.{deed_of, is_there};
+    ghost use Rattle.lo_machine.specs.Run.{start};
+    ghost use Rattle.lo_machine.specs.Spelled.{IsSpelled, IsPutPlace, IsAllBytes, put_limit};
+    ghost use Rattle.lo_machine.specs.Step.{outcome, served, changed, refused, no_savepoint, may_recover};
+    ghost use Rattle.xact_core.specs.Kept.{view_at};
+    ghost use Rattle.xact_core.specs.Transactions.{levels_of};
+
     /// An engine of the empty database.
     pub fn start(alloc: Global) -> Result<Engine, NoMemory>
-        ensures { IfOk result (λ engine. StandsFor engine start.state) }
+        ensures found { IfOk result (λ engine. engine.is_lost ≡ false) }
+        ensures stands { IfOk result (λ engine. StandsFor engine start.state) }
+        ensures steps { IfOk result (λ engine. steps_of engine ≡ 0) }
     {
         Ok(Engine {
             alloc,
-            objects: BTreeMap::new(alloc),
+            blocks: Blocks::new(alloc)?,
+            history: History::new(alloc),
+            is_lost: false,
         })
     }
 
-    /// Does one request of a session, as a transaction of its own.
-    #[tactic(auto, using(crate::proofs::Serving::serves_create, crate::proofs::Serving::serves_put, crate::proofs::Serving::serves_get))]
+    /// Does one request of a session. Where it finds no memory, so do all requests after it.
     pub fn step(&mut self, s: SessionNo, request: &Request) -> Result<Reply, NoMemory>
-        requires { IsSpelled request.now }
+        requires spelled { IsSpelled request.now }
+        requires room { HasRoom self.old }
         ensures { Serves self.old self.new s request.now result }
     {
-        match request {
-            Request::LoCreate(oid) => self.create(*oid),
-            Request::LoPut(oid, at, bytes) => self.put(*oid, *at, bytes.items()),
-            Request::LoGet(oid, from, length) => self.get(*oid, *from, *length),
+        if self.is_lost {
+            return Err(NoMemory);
         }
+        let view = self.blocks.xacts().snapshot(s);
+        self.blocks.tick();
+        let reply = self.outcome(s, &view, request);
+        self.is_lost = reply.is_err();
+        reply
     }
 
-    fn create(&mut self, oid: Oid) -> Result<Reply, NoMemory>
-        ensures { Does self.old self.new (created oid (kept self.old oid)) result }
+    /// Does a request, which a failed block refuses unless it may end the failure.
+    fn outcome(
+        &mut self,
+        s: SessionNo,
+        view: &Snapshot,
+        request: &Request,
+    ) -> Result<Reply, NoMemory>
+        requires spelled { IsSpelled request.now }
+        requires view { view.now ≡ view_at self.old.blocks.xacts.clock (Whole s) }
+        requires ready { IsReady self.old.blocks.xacts }
+        ensures { IfOk result (Does self.old self.new s (λ st. outcome st s request.now)) }
     {
-        match self.objects.entry(oid)? {
-            Entry::Occupied(_) => Ok(refused(Cause::ObjectExists, oid)),
-            Entry::Vacant(place) => {
-                place.insert(ListOf::new(self.alloc));
-                Ok(Reply::Number(i64::from(oid)))
-            }
+        if self.blocks.is_failed(s) && !may_recover(request) {
+            return Ok(self.refuse(s, Cause::Failed, 0));
+        }
+        match request {
+            Request::Begin => self.begin(s),
+            Request::Commit => Ok(self.commit(s)),
+            Request::Rollback => Ok(self.rollback(s)),
+            Request::Savepoint(name) => self.savepoint(s, name),
+            Request::Release(name) => Ok(self.release(s, name)),
+            Request::RollbackTo(name) => Ok(self.rollback_to(s, name)),
+            Request::LoCreate(oid) => self.create(s, view, *oid),
+            Request::LoPut(oid, at, bytes) => self.put(s, view, *oid, *at, bytes.items()),
+            Request::LoGet(oid, from, length) => self.get(s, view, *oid, *from, *length),
+            Request::Vacuum => Ok(self.vacuum(s)),
         }
     }
 
-    fn put(&mut self, oid: Oid, at: i64, bytes: &[u8]) -> Result<Reply, NoMemory>
+    fn begin(&mut self, s: SessionNo) -> Result<Reply, NoMemory>
+        requires { IsReady self.old.blocks.xacts }
+        ensures { IfOk result (Does self.old self.new s (λ st. served st s Request.Begin)) }
+    {
+        if !self.blocks.is_open(s) {
+            self.blocks.begin(s)?;
+        }
+        Ok(Reply::Word(Word::Begin))
+    }
+
+    fn commit(&mut self, s: SessionNo) -> Reply
+        ensures { Does self.old self.new s (λ st. served st s Request.Commit) result }
+    {
+        if !self.blocks.is_open(s) {
+            return Reply::Word(Word::Commit);
+        }
+        if self.blocks.is_failed(s) {
+            return self.rollback(s);
+        }
+        self.blocks.commit(s);
+        Reply::Word(Word::Commit)
+    }
+
+    fn rollback(&mut self, s: SessionNo) -> Reply
+        ensures { Does self.old self.new s (λ st. served st s Request.Rollback) result }
+    {
+        if self.blocks.is_open(s) {
+            self.blocks.abort(s);
+        }
+        Reply::Word(Word::Rollback)
+    }
+
+    fn savepoint(&mut self, s: SessionNo, name: &Name) -> Result<Reply, NoMemory>
+        requires { IsReady self.old.blocks.xacts }
+        ensures { IfOk result (Does self.old self.new s (λ st. served st s (Request.Savepoint name.now))) }
+    {
+        if !self.blocks.is_open(s) {
+            return Ok(self.refuse(s, Cause::NoBlock, 0));
+        }
+        self.blocks
+            .save(s, Name::from_slice(self.alloc, name.items())?)?;
+        Ok(Reply::Word(Word::Savepoint))
+    }
+
+    fn release(&mut self, s: SessionNo, name: &Name) -> Reply
+        requires { IsReady self.old.blocks.xacts }
+        ensures { Does self.old self.new s (λ st. served st s (Request.Release name.now)) result }
+    {
+        let Some(level) = self.blocks.newest(s, name) else {
+            return self.no_savepoint(s);
+        };
+        self.blocks.release(s, level);
+        Reply::Word(Word::Release)
+    }
+
+    fn rollback_to(&mut self, s: SessionNo, name: &Name) -> Reply
+        requires { IsReady self.old.blocks.xacts }
+        ensures { Does self.old self.new s (λ st. served st s (Request.RollbackTo name.now)) result }
+    {
+        let Some(level) = self.blocks.newest(s, name) else {
+            return self.no_savepoint(s);
+        };
+        self.blocks.undo(s, level);
+        Reply::Word(Word::Rollback)
+    }
+
+    /// The refusal of a savepoint that is not there.
+    fn no_savepoint(&mut self, s: SessionNo) -> Reply
+        requires { IsReady self.old.blocks.xacts }
+        ensures { Does self.old self.new s (λ st. refused st s (no_savepoint (st.blocks s).levels) (pos 0)) result }
+    {
+        let cause = if self.blocks.is_open(s) {
+            Cause::NoSavepoint
+        } else {
+            Cause::NoBlock
+        };
+        self.refuse(s, cause, 0)
+    }
+
+    fn vacuum(&mut self, s: SessionNo) -> Reply
+        requires { IsReady self.old.blocks.xacts }
+        ensures { Does self.old self.new s (λ st. served st s Request.Vacuum) result }
+    {
+        if self.blocks.is_open(s) {
+            return self.refuse(s, Cause::InBlock, 0);
+        }
+        Reply::Word(Word::Vacuum)
+    }
+
+    fn create(&mut self, s: SessionNo, view: &Snapshot, oid: Oid) -> Result<Reply, NoMemory>
+        requires unfailed { (block_of self.old.blocks s).failed ≡ false }
+        requires view { view.now ≡ view_at self.old.blocks.xacts.clock (Whole s) }
+        requires ready { IsReady self.old.blocks.xacts }
+        ensures { IfOk result (Does self.old self.new s (λ st. served st s (Request.LoCreate oid))) }
+    {
+        if self.exists(view, oid) {
+            return Ok(self.refuse(s, Cause::ObjectExists, i64::from(oid)));
+        }
+        self.change(s, oid, Change::Created, Reply::Number(i64::from(oid)))
+    }
+
+    fn put(
+        &mut self,
+        s: SessionNo,
+        view: &Snapshot,
+        oid: Oid,
+        at: i64,
+        bytes: &[u8],
+    ) -> Result<Reply, NoMemory>
         requires at { IsPutPlace at }
         requires bytes { length bytes.now ≤ put_limit }
-        ensures { Does self.old self.new (put oid (place_of at) bytes.now (kept self.old oid)) result }
+        requires unfailed { (block_of self.old.blocks s).failed ≡ false }
+        requires view { view.now ≡ view_at self.old.blocks.xacts.clock (Whole s) }
+        requires ready { IsReady self.old.blocks.xacts }
+        ensures { IfOk result (Does self.old self.new s (λ st. served st s (Request.LoPut oid at bytes.now))) }
     {
-        let Some(object) = self.objects.get_mut(&oid) else {
-            return Ok(refused(Cause::NoObject, oid));
-        };
-        if !bytes.is_empty() {
-            *object = laid_over(self.alloc, object.items(), at as usize, bytes)?;
+        if !self.exists(view, oid) {
+            return Ok(self.refuse(s, Cause::NoObject, i64::from(oid)));
         }
-        Ok(Reply::Word(Word::Ok))
+        if bytes.is_empty() {
+            return Ok(Reply::Word(Word::Ok));
+        }
+        let written = Change::Written(place_of(at), Bytes::from_slice(self.alloc, bytes)?);
+        self.change(s, oid, written, Reply::Word(Word::Ok))
     }
 
-    fn get(&self, oid: Oid, from: i64, length: Option<i32>) -> Result<Reply, NoMemory>
-        requires { IsWhole from length }
-        ensures { Does self.now self.now (got oid (place_of from) length (kept self.now oid)) result }
+    fn get(
+        &mut self,
+        s: SessionNo,
+        view: &Snapshot,
+        oid: Oid,
+        from: i64,
+        length: Option<i32>,
+    ) -> Result<Reply, NoMemory>
+        requires whole { IsAllBytes from length }
+        requires view { view.now ≡ view_at self.old.blocks.xacts.clock (Whole s) }
+        requires ready { IsReady self.old.blocks.xacts }
+        ensures { IfOk result (Does self.old self.new s (λ st. served st s (Request.LoGet oid from length))) }
     {
-        let Some(object) = self.objects.get(&oid) else {
-            return Ok(refused(Cause::NoObject, oid));
-        };
-        Ok(Reply::Content(Bytes::from_slice(self.alloc, object.items())?))
+        match content(self.alloc, self.blocks.xacts(), view, self.history.of(oid))? {
+            Some(bytes) => Ok(Reply::Content(bytes)),
+            None => Ok(self.refuse(s, Cause::NoObject, i64::from(oid))),
+        }
+    }
+
+    /// Whether the view has the object.
+    fn exists(&self, view: &Snapshot, oid: Oid) -> bool
+        ensures { result ≡ is_there (object_kept self.now view.now oid) }
+    {
+        exists(self.blocks.xacts(), view, self.history.of(oid))
+    }
+
+    /// Changes an object, unless another session holds what the change would touch.
+    fn change(
+        &mut self,
+        s: SessionNo,
+        oid: Oid,
+        change: Change,
+        reply: Reply,
+    ) -> Result<Reply, NoMemory>
+        requires unfailed { (block_of self.old.blocks s).failed ≡ false }
+        requires ready { IsReady self.old.blocks.xacts }
+        ensures { IfOk result (Does self.old self.new s (λ st. changed st s reply (deed_of oid change))) }
+    {
+        if let Some(other) = holder(self.blocks.xacts(), s, &change, self.history.of(oid)) {
+            return Ok(self.refuse(s, Cause::Busy, i64::from(other.number())));
+        }
+        if self.blocks.is_open(s) {
+            self.add(s, oid, change)?;
+        } else {
+            self.blocks.begin(s)?;
+            self.add(s, oid, change)?;
+            self.blocks.commit(s);
+        }
+        Ok(reply)
+    }
+
+    /// Adds a change to the session's top level.
+    fn add(&mut self, s: SessionNo, oid: Oid, change: Change) -> Result<(), NoMemory>
+        requires { 0 < length (levels_of self.old.blocks.xacts s) }
+        ensures { OnOk result (Tops self.old self.new s oid change) }
+    {
+        let stamp = self.blocks.xacts().stamp(s);
+        self.history.add(oid, StampedChange { stamp, change })
+    }
+
+    /// A refusal, which fails the session's block, if it has one.
+    fn refuse(&mut self, s: SessionNo, cause: Cause, subject: i64) -> Reply
+        requires { IsReady self.old.blocks.xacts }
+        ensures { Does self.old self.new s (λ st. refused st s cause subject) result }
+    {
+        self.blocks.fail(s);
+        Reply::Refused(Refusal { cause, subject })
     }
 }
 
-fn refused(cause: Cause, oid: Oid) -> Reply
-    ensures { result ≡ Reply.Refused (record { cause = cause; subject = pos oid }) }
+/// A place in an object, of a put.
+fn place_of(at: i64) -> u32
+    requires { IsPutPlace at }
+    ensures { result ≡ place_of at }
 {
-    Reply::Refused(Refusal {
-        cause,
-        subject: i64::from(oid),
-    })
+    at as u32
+}
+
+/// Whether a request may end a block's failure.
+fn may_recover(request: &Request) -> bool
+    ensures { result ≡ may_recover request.now }
+{
+    matches!(
+        request,
+        Request::Commit | Request::Rollback | Request::RollbackTo(_)
+    )
 }

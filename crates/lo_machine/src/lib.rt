@@ -2,7 +2,10 @@
 //! sessions' programs under a schedule, which replays by its type.
 #![tactic(auto)]
 
+mod blocks;
+mod change;
 mod engine;
+mod history;
 mod law;
 mod object;
 mod programs;

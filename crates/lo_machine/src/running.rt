@@ -14,8 +14,11 @@ pub type Schedule = ListOf<SessionNo>;
 /// The reply to each advance, with its session.
 pub type Replies = ListOf<(SessionNo, Reply)>;
 
+/// More advances than a memory has room for.
+const MOST_ADVANCES: usize = 1 << 62;
+
 /// Programs that are being run. Replaying them over the schedule so far gives the replies so far, and the engine stands
-/// for the state at its end.
+/// for the state at its end, unless it found no memory.
 #[derive(Drop)]
 pub struct Running {
     programs: Programs,
@@ -80,12 +83,16 @@ impl Running {
         done as u64 + 1
     }
 
-    /// Does the session's next line.
+    /// Does the session's next line. After want of memory programs, schedule and replies are as before; where it was the
+    /// engine that found none, every later advance finds none.
     pub fn advance(&mut self, s: SessionNo) -> Result<(), NoMemory>
         requires { HasLine self.old s }
         ensures ok { OnOk result (Advances s self.old self.new) }
         ensures err { OnErr result (self.new ≡ self.old) }
     {
+        if self.schedule.len() >= MOST_ADVANCES {
+            return Err(NoMemory);
+        }
         let place = s.place();
         let done = self.lines_done[place];
         let request = &self.programs.lines(s)[done];

@@ -17,7 +17,7 @@ invariant_of-self-in_err-reply c = stayed c.self.inside _ c.self.invariant recor
   schedule = search rules;
   replies = search rules;
   lines_done = search rules;
-  stands = c.in_err-reply.ensures.err _ c.self.invariant.stands;
+  lost = c.in_err-reply.ensures.lost;
 }
 
 -- what the advance changed, in the words of the lemmas
@@ -48,6 +48,8 @@ changed c =
       lines_done = ap (λ (n : ℕ). set c.self.inside.lines_done.items c.place-place.result (n + 1)) done;
       answer = (c.in_ok-reply.ensures.ok _ c.self.invariant.stands).0;
       stands = (c.in_ok-reply.ensures.ok _ c.self.invariant.stands).1;
+      found = c.in_ok-reply.ensures.steps.0;
+      steps = c.in_ok-reply.ensures.steps.2;
     }
 
 pub invariant_of-self-2 : goal.invariant_of-self-2
