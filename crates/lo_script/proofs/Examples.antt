@@ -1,14 +1,14 @@
 -- Worked examples of the grammar and of printed replies, each computed by the checker: a wrong one fails the crate.
-use Rattle.std.proofs.Common.{◌≡◌, refl, pos, negsuc, List, [], ◌∷◌, Some, None, replicate}
+use Rattle.std.proofs.Common.{◌≡◌, refl, pos, negsuc, List, [], ◌∷◌, ◌++◌, Some, None, replicate}
 use Rattle.std.specs.Prelude.{codes}
 use Rattle.std.specs.Fmt.{digits}
 use Rattle.hex.specs.Hex.{encode_with, decode_pairs}
 use Rattle.lo_base.specs.declared.refusal.Cause.TheVariants.{NoObject, ObjectExists}
 use Rattle.lo_base.specs.declared.reply.Reply.TheVariants.{Word, Number, Content, Refused}
-use Rattle.lo_base.specs.declared.reply.Word.TheVariants.{Ok}
+use Rattle.lo_base.specs.declared.reply.Word.TheVariants.{Begin as Begun, Commit as Committed, Rollback as RolledBack, Savepoint as Saved, Release as Released, Vacuum as Vacuumed, Ok}
 use Rattle.lo_base.specs.declared.request.Request.{Request}
-use Rattle.lo_base.specs.declared.request.Request.TheVariants.{LoCreate, LoPut, LoGet}
-use Rattle.lo_script.specs.Token.{decimal_of, bytes_of}
+use Rattle.lo_base.specs.declared.request.Request.TheVariants.{Begin, Commit, Rollback, Savepoint, Release, RollbackTo, LoCreate, LoPut, LoGet, Vacuum}
+use Rattle.lo_script.specs.Token.{decimal_of, bytes_of, name_of, session_of}
 use Rattle.lo_script.specs.Form.{request_of}
 use Rattle.lo_script.specs.Script.{script_of, script_with, entry_of}
 use Rattle.lo_script.specs.ReplyText.{text_of, line_of, lines_of}
@@ -30,6 +30,11 @@ skipped_lines : script_of (codes "# a note\n\r\nA: lo_get 5\r\n\nA: lo_get 0")
     ≡ Some (script_with (alone (LoGet 5 (pos 0) None ∷ LoGet 0 (pos 0) None ∷ [])) (1 ∷ 1 ∷ []))
 unfolding digits
 skipped_lines = refl
+
+-- two sessions in turn, each with its own program
+first_and_last : script_of (codes "A: begin\nP: savepoint s\nA: rollback to s\nP: vacuum\n")
+    ≡ Some (script_with ((Begin ∷ RollbackTo (codes "s") ∷ []) ∷ replicate 14 [] ++ (Savepoint (codes "s") ∷ Vacuum ∷ []) ∷ []) (1 ∷ 16 ∷ 1 ∷ 16 ∷ []))
+first_and_last = refl
 
 no_lines : script_of [] ≡ Some (script_with (replicate 16 []) [])
 no_lines = refl
@@ -61,8 +66,17 @@ space_at_the_end = refl
 space_at_the_front : entry_of (codes " A: lo_get 5") ≡ None
 space_at_the_front = refl
 
-other_session : entry_of (codes "B: lo_get 5") ≡ None
-other_session = refl
+second_session : entry_of (codes "B: commit") ≡ Some (2, Commit)
+second_session = refl
+
+seventeenth_letter : entry_of (codes "Q: begin") ≡ None
+seventeenth_letter = refl
+
+before_the_first_letter : entry_of (codes "@: begin") ≡ None
+before_the_first_letter = refl
+
+two_letters : entry_of (codes "AA: begin") ≡ None
+two_letters = refl
 
 no_session : entry_of (codes "lo_get 5") ≡ None
 no_session = refl
@@ -73,7 +87,47 @@ no_word = refl
 unknown_word : entry_of (codes "A: lo_creat 5") ≡ None
 unknown_word = refl
 
+rolled_back : entry_of (codes "A: rollback") ≡ Some (1, Rollback)
+rolled_back = refl
+
+-- `to` can be a savepoint's name
+rolled_back_to : entry_of (codes "A: rollback to to") ≡ Some (1, RollbackTo (codes "to"))
+rolled_back_to = refl
+
+rolled_back_elsewhere : entry_of (codes "A: rollback s") ≡ None
+rolled_back_elsewhere = refl
+
+rolled_back_to_nothing : entry_of (codes "A: rollback to") ≡ None
+rolled_back_to_nothing = refl
+
+rolled_back_to_two : entry_of (codes "A: rollback to s t") ≡ None
+rolled_back_to_two = refl
+
+released : entry_of (codes "C: release _1") ≡ Some (3, Release (codes "_1"))
+released = refl
+
+block_of_a_kind : entry_of (codes "A: begin repeatable read") ≡ None
+block_of_a_kind = refl
+
 -- Tokens
+
+last_mark : session_of (codes "P:") ≡ Some 16
+last_mark = refl
+
+longest_name : name_of (replicate 63 97) ≡ Some (replicate 63 97)
+longest_name = refl
+
+name_too_long : name_of (replicate 64 97) ≡ None
+name_too_long = refl
+
+capital_letter : name_of (codes "aB") ≡ None
+capital_letter = refl
+
+digit_first : name_of (codes "1a") ≡ None
+digit_first = refl
+
+no_name : name_of [] ≡ None
+no_name = refl
 
 zero_token : decimal_of (codes "0") ≡ Some 0
 unfolding digits
@@ -150,6 +204,10 @@ printed_replies : lines_of ((1, Number (pos 17000)) ∷ (1, Word Ok) ∷ (1, Con
     ≡ codes "A: 17000\nA: OK\nA: \\x00000041\n"
 unfolding digits encode_with
 printed_replies = refl
+
+printed_words : lines_of ((1, Word Begun) ∷ (2, Word Committed) ∷ (15, Word RolledBack) ∷ (16, Word Saved) ∷ (16, Word Released) ∷ (16, Word Vacuumed) ∷ [])
+    ≡ codes "A: BEGIN\nB: COMMIT\nO: ROLLBACK\nP: SAVEPOINT\nP: RELEASE\nP: VACUUM\n"
+printed_words = refl
 
 printed_refusal : line_of 1 (Refused (record { cause = NoObject; subject = pos 7 })) ≡ codes "A: ERROR 42704: large object 7 does not exist\n"
 unfolding digits

@@ -5,3 +5,4 @@ pub mod OneLine
 pub mod Ordered
 pub mod Printing
 pub mod Spellings
+pub mod Words

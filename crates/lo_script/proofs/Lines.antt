@@ -1,7 +1,8 @@
 -- Lines and tokens: parts of a cut text.
-use Rattle.std.proofs.Common.{◌≡◌, ℕ, ◌+◌, ◌<◌, ◌==◌, Bool, Some, None, List, [], ◌∷◌, length, take, drop, get_or, false, ◌-◌, length-drop, refl, ◌∙◌, arith}
+use Rattle.std.proofs.Common.{◌≡◌, ℕ, ◌+◌, ◌<◌, ◌==◌, Bool, Some, None, List, [], ◌∷◌, length, take, drop, get_or, not, true, false, ◌-◌, length-drop, refl, sym, ◌∙◌, arith}
+use Rattle.std.specs.Prelude.{Option, IsTrue}
+use Rattle.std.specs.Option.{is_some, option_map_or}
 use Rattle.std.specs.List.{slice_split, position, position_or_len}
-use Rattle.lo_script.specs.Form.{no_token}
 use Rattle.std.specs.Str.Lines.{lines, lines_of_parts, strip_carriage_return}
 use Rattle.std.proofs.lemmas.List.Splits.{length-slice_split, slice_split_first, slice_split_none}
 use Rattle.std.proofs.lemmas.List.Quantifiers.{position-Some}
@@ -48,7 +49,9 @@ slice_split-not_nil p xs h = let some = slice_split-some p xs in let none : leng
 pub first_of_lines : (text line after : List ℕ) → slice_split (λ b. b == 10) text ≡ line ∷ slice_split (λ b. b == 10) after → lines text ≡ strip_carriage_return line ∷ lines after
 first_of_lines text line after h = rw h (lines_of_parts-more line (slice_split (λ b. b == 10) after) (slice_split-some (λ b. b == 10) after))
 
--- where no token is left none is missing, and otherwise one is too many
-pub no_token-left : {R : Type 0} (r : R) (tokens : List (List ℕ)) → (tokens ≡ [] → ⊥) → no_token r tokens ≡ None
-no_token-left r [] some = absurd (some refl)
-no_token-left r (token ∷ tokens) some = refl
+-- no token is left exactly where no rest of the line is left, since a rest has one token or more
+pub no_rest : {A : Type 0} (tokens : A → List (List ℕ)) (rest : Option A) (left : List (List ℕ)) (r : Bool) → ((a : A) → tokens a ≡ [] → ⊥) → option_map_or tokens rest [] ≡ left → is_some rest ≡ not r → (IsTrue r → left ≡ []) × (left ≡ [] → IsTrue r)
+no_rest tokens None left true some is h = (λ _. sym is, λ _. refl)
+no_rest tokens None left false some is h = cc h
+no_rest tokens (Some a) left true some is h = cc h
+no_rest tokens (Some a) left false some is h = (λ e. cc e, λ none. absurd (some a (is ∙ none)))

@@ -80,6 +80,7 @@ encode-one_line (b ∷ bytes) = All-cons (λ c. c ≢ 10) (slice_index lower_dig
 -- the table of causes, tried entry by entry
 word-one_line : (word : FixedWord) → is_one_line (word_text word) ≡ true
 word-one_line Ok = refl
+word-one_line other = refl
 
 code-one_line : (code : Code) → is_one_line (sqlstate_of code) ≡ true
 code-one_line C25P02 = refl

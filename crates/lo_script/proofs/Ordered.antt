@@ -1,6 +1,6 @@
 -- The order of a script names each session once for each line of its program.
 use Rattle.std.proofs.Common.{◌≡◌, ◌≢◌, ℕ, ◌+◌, ◌-◌, ◌≤◌, ◌==◌, List, [], ◌∷◌, ◌++◌, length, replicate, Some, refl, ap, ◌∙◌, inl, inr, cond, arith, length-append, length-set, subst}
-use Rattle.std.specs.Prelude.{All, count_by, option_map, slice_set, filter, bytes_eq, nat_lt}
+use Rattle.std.specs.Prelude.{All, count_by, option_map, slice_set, filter, nat_lt}
 use Rattle.std.specs.Str.Lines.{lines}
 use Rattle.std.proofs.lemmas.Bool.{cases_eq}
 use Rattle.std.proofs.lemmas.Bool.Decides.{nat_tests}
@@ -10,11 +10,12 @@ use Rattle.std.proofs.lemmas.List.Elements.{All-nil, All-cons, All-head, All-tai
 use Rattle.lo_base.specs.declared.request.Request.{Request}
 use Rattle.lo_machine.specs.Program.{program_of}
 use Rattle.lo_machine.specs.Run.{IsOrderOf}
-use Rattle.lo_script.specs.Token.{session_of, tokens_of, mark_of}
+use Rattle.lo_script.specs.Token.{session_of, tokens_of}
 use Rattle.lo_script.specs.Form.{request_of}
 use Rattle.lo_script.specs.Script.{ScriptText, script_with, entry_of, all_of, with_entry, with_entries, script_of, is_request_line}
 use Rattle.lo_script.proofs.Numbers.{tested, some_injective}
 use Rattle.lo_script.proofs.Spellings.{first_token-some, map-some, and_then-some}
+use Rattle.lo_script.proofs.Words.{session-some}
 
 abbrev Entry : Type 0
 Entry = ℕ × Request
@@ -82,14 +83,6 @@ nothing_ordered : IsOrdered (script_with (replicate 16 []) [])
 nothing_ordered = record { sixteen = refl; sessions = All-nil (λ session. 1 ≤ session); counted = λ session low. ap (λ (program : List Request). length program) (no_lines session) }
 
 -- the session of a line that was read
-session-some : (token : List ℕ) (s : ℕ) → session_of token ≡ Some s → (1 ≤ s) × (s ≤ 16)
-session-some token s h = elim (tested (bytes_eq token (mark_of 1))) [
-  | inl first ↦
-      let is : 1 ≡ s = some_injective 1 s (rw first at h) in
-      (omega arith, omega arith)
-  | inr other ↦ let none = rw other at h in cc none
-]
-
 entry-session : (line : List ℕ) (entry : Entry) → entry_of line ≡ Some entry → IsSession entry
 entry-session line entry h =
     let f = first_token-some session_of (λ session tokens. option_map (λ request. (session, request)) (request_of tokens)) (tokens_of line) entry h in

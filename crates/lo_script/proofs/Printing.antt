@@ -27,9 +27,6 @@ piece_printed old now new bytes rest piece after h cut e = record {
   is = e ∙ ap (λ (r : List ℕ). r ++ encode_lower piece) h.is ∙ append_assoc old (encode_lower h.front) (encode_lower piece) ∙ ap (λ (r : List ℕ). old ++ r) (sym (encode_with-append lower_digits h.front piece));
 }
 
-pub all_printed : (old now bytes rest : List ℕ) → Printed old now bytes rest → rest ≡ [] → now ≡ old ++ encode_lower bytes
-all_printed old now bytes rest h none = h.is ∙ ap (λ (r : List ℕ). old ++ encode_lower r) (sym (h.whole ∙ ap (λ (r : List ℕ). h.front ++ r) none ∙ append-nil h.front))
-
 pub front_printed : (old now bytes rest : List ℕ) → Printed old now bytes rest → AddsFront old now (encode_lower bytes)
 front_printed old now bytes rest h = front_appended old now (encode_lower h.front) (encode_lower rest) (encode_lower bytes) h.is (rw h.whole (encode_with-append lower_digits h.front rest))
 

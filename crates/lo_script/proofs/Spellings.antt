@@ -1,16 +1,17 @@
 -- Which tokens spell a request: inversions of the grammar, and back.
-use Rattle.std.proofs.Common.{◌≡◌, ℕ, List, [], ◌∷◌, Some, None, refl, ap, arith}
-use Rattle.std.specs.Prelude.{Option, pos, negsuc, bytes_eq, codes, option_and_then, option_map, if◌then◌else◌}
-use Rattle.std.proofs.Common.{inl, inr}
+use Rattle.std.proofs.Common.{◌≡◌, ℕ, List, [], ◌∷◌, Some, None, refl, ap, inl, inr, arith}
+use Rattle.std.specs.Prelude.{Option, pos, negsuc, bytes_eq, codes, option_and_then, option_map}
+use Rattle.std.specs.List.{AllByRecursion}
 use Rattle.std.proofs.lemmas.Slice.Eq.{bytes_eq-Decides}
 use Rattle.lo_base.specs.declared.request.Request.{Request}
-use Rattle.lo_base.specs.declared.request.Request.TheVariants.{LoCreate, LoPut, LoGet}
+use Rattle.lo_base.specs.declared.request.Request.TheVariants.{Begin, Commit, Rollback, Savepoint, Release, RollbackTo, LoCreate, LoPut, LoGet, Vacuum}
 use Rattle.lo_machine.specs.Spelled.{IsSpelled, put_limit}
-use Rattle.lo_script.specs.Token.{number_of, bytes_of, session_of, tokens_of}
-use Rattle.lo_script.specs.Form.{first_token, no_token, one_token, create_of, put_of, get_of, form_of, request_of, oid_limit}
+use Rattle.lo_script.specs.Token.{number_of, bytes_of, name_of, keyword_of, session_of, tokens_of}
+use Rattle.lo_script.specs.Form.{Form, first_token, no_token, one_token, two_tokens, three_tokens, none_or, savepoint_of, release_of, rollback_of, create_of, put_of, get_of, forms, large_object_forms, form_in, request_of, oid_limit}
 use Rattle.lo_script.specs.Spelling.{Spells}
 use Rattle.lo_script.specs.Script.{entry_of}
 use Rattle.lo_script.proofs.Numbers.{Prints, PrintsBytes, tested, some_injective, number_of-prints, number_of-decimal, bytes_of-prints, bytes_of-spelled}
+use Rattle.lo_script.proofs.Words.{name_of-prints, spelled_name, keyword_of-is}
 
 -- a first token that spells a value
 pub record First {A R : Type 0} (value : List ℕ → Option A) (others : A → List (List ℕ) → Option R) (tokens : List (List ℕ)) (r : R) : Type 0 where
@@ -35,71 +36,105 @@ first_token-some value others (token ∷ more) r h =
     let found = and_then-some (λ a. others a more) (value token) r h in
     record { token = token; more = more; a = found.0; is = refl; spells = found.1; left = found.2 }
 
-no_token-some : {R : Type 0} (made r : R) (tokens : List (List ℕ)) → no_token made tokens ≡ Some r → (tokens ≡ []) × (made ≡ r)
-no_token-some made r [] h = (refl, some_injective made r h)
-no_token-some made r (token ∷ more) h = cc h
+-- Each value that a reader finds has a property, together with the tokens that it was read from.
+abbrev Finds : {R : Type 0} → (reader : List (List ℕ) → Option R) → (Has : List (List ℕ) → R → Type 0) → Type 0
+Finds reader Has = (tokens : List (List ℕ)) (r : _) → reader tokens ≡ Some r → Has tokens r
 
--- the parts of a request that was read, as its printed form
-create-spells : (oid : ℕ) (token : List ℕ) (more tokens : List (List ℕ)) (r : Request) → tokens ≡ token ∷ more → more ≡ [] → Prints 1 oid_limit token oid → LoCreate oid ≡ r → IsSpelled r × Spells r (codes "lo_create" ∷ tokens)
-create-spells oid token more tokens r is none p made = rw (← made) (p.low, (p.high, rw (is, none, p.is) refl))
+no_token-finds : {R : Type 0} (Has : List (List ℕ) → R → Type 0) (made : R) → Has [] made → Finds (no_token made) Has
+no_token-finds Has made h [] r e = rw (← some_injective made r e) h
+no_token-finds Has made h (token ∷ more) r e = cc e
 
-create-some : (tokens : List (List ℕ)) (r : Request) → create_of tokens ≡ Some r → IsSpelled r × Spells r (codes "lo_create" ∷ tokens)
-create-some tokens r h =
-    let f = first_token-some (number_of 1 oid_limit) (λ a. no_token (LoCreate a)) tokens r h in
-    let e = no_token-some (LoCreate f.a) r f.more f.left in
-    create-spells f.a f.token f.more tokens r f.is e.0 (number_of-prints 1 oid_limit f.a f.token f.spells) e.1
+none_or-finds : {R : Type 0} (Has : List (List ℕ) → R → Type 0) (made : R) (others : List (List ℕ) → Option R) → Has [] made → Finds others Has → Finds (none_or made others) Has
+none_or-finds Has made others h k [] r e = rw (← some_injective made r e) h
+none_or-finds Has made others h k (token ∷ more) r e = k (token ∷ more) r e
 
-get-spells : (oid : ℕ) (token : List ℕ) (more tokens : List (List ℕ)) (r : Request) → tokens ≡ token ∷ more → more ≡ [] → Prints 0 oid_limit token oid → LoGet oid (pos 0) None ≡ r → IsSpelled r × Spells r (codes "lo_get" ∷ tokens)
-get-spells oid token more tokens r is none p made = rw (← made) (refl, (p.high, rw (is, none, p.is) refl))
+first_token-finds : {A R : Type 0} (Has : List (List ℕ) → R → Type 0) (value : List ℕ → Option A) (others : A → List (List ℕ) → Option R)
+    → ((token : List ℕ) (a : A) → value token ≡ Some a → Finds (others a) (λ more. Has (token ∷ more))) → Finds (first_token value others) Has
+first_token-finds Has value others h tokens r e =
+    let f = first_token-some value others tokens r e in
+    rw f.is (h f.token f.a f.spells f.more r f.left)
 
-get-some : (tokens : List (List ℕ)) (r : Request) → get_of tokens ≡ Some r → IsSpelled r × Spells r (codes "lo_get" ∷ tokens)
-get-some tokens r h =
-    let f = first_token-some (number_of 0 oid_limit) (λ a. no_token (LoGet a (pos 0) None)) tokens r h in
-    let e = no_token-some (LoGet f.a (pos 0) None) r f.more f.left in
-    get-spells f.a f.token f.more tokens r f.is e.0 (number_of-prints 0 oid_limit f.a f.token f.spells) e.1
+one_token-finds : {A R : Type 0} (Has : List (List ℕ) → R → Type 0) (value : List ℕ → Option A) (make : A → R)
+    → ((token : List ℕ) (a : A) → value token ≡ Some a → Has (token ∷ []) (make a)) → Finds (one_token value make) Has
+one_token-finds Has value make h =
+    first_token-finds Has value (λ a. no_token (make a)) (λ token a is. no_token-finds (λ more. Has (token ∷ more)) (make a) (h token a is))
 
-put-spells : (oid at : ℕ) (bytes : List ℕ) (t u v : List ℕ) (more tokens : List (List ℕ)) (r : Request) → tokens ≡ t ∷ u ∷ v ∷ more → more ≡ [] → Prints 0 oid_limit t oid → Prints 0 put_limit u at → PrintsBytes put_limit v bytes → LoPut oid (pos at) bytes ≡ r → IsSpelled r × Spells r (codes "lo_put" ∷ tokens)
-put-spells oid at bytes t u v more tokens r is none p q b made = rw (← made) ((q.high, b.few), (p.high, record { digits = b.digits; stands_for = b.stands_for; printed = rw (is, none, p.is, q.is, b.is) refl }))
+two_tokens-finds : {A B R : Type 0} (Has : List (List ℕ) → R → Type 0) (first : List ℕ → Option A) (second : List ℕ → Option B) (make : A → B → R)
+    → ((t u : List ℕ) (a : A) (b : B) → first t ≡ Some a → second u ≡ Some b → Has (t ∷ u ∷ []) (make a b)) → Finds (two_tokens first second make) Has
+two_tokens-finds Has first second make h =
+    first_token-finds Has first (λ a. one_token second (make a)) (λ t a is. one_token-finds (λ more. Has (t ∷ more)) second (make a) (λ u b. h t u a b is))
 
-three : (tokens more-t more-u more-v : List (List ℕ)) (t u v : List ℕ) → tokens ≡ t ∷ more-t → more-t ≡ u ∷ more-u → more-u ≡ v ∷ more-v → tokens ≡ t ∷ u ∷ v ∷ more-v
-three tokens more-t more-u more-v t u v a b c = rw (a, b, c) refl
+three_tokens-finds : {A B C R : Type 0} (Has : List (List ℕ) → R → Type 0) (first : List ℕ → Option A) (second : List ℕ → Option B) (third : List ℕ → Option C) (make : A → B → C → R)
+    → ((t u v : List ℕ) (a : A) (b : B) (c : C) → first t ≡ Some a → second u ≡ Some b → third v ≡ Some c → Has (t ∷ u ∷ v ∷ []) (make a b c)) → Finds (three_tokens first second third make) Has
+three_tokens-finds Has first second third make h =
+    first_token-finds Has first (λ a. two_tokens second third (make a)) (λ t a is. two_tokens-finds (λ more. Has (t ∷ more)) second third (make a) (λ u v b c. h t u v a b c is))
 
-put-some : (tokens : List (List ℕ)) (r : Request) → put_of tokens ≡ Some r → IsSpelled r × Spells r (codes "lo_put" ∷ tokens)
-put-some tokens r h =
-    let f = first_token-some (number_of 0 oid_limit) (λ (oid : ℕ). first_token (number_of 0 put_limit) (λ (at : ℕ). one_token (bytes_of put_limit) (λ bytes. LoPut oid (pos at) bytes))) tokens r h in
-    let g = first_token-some (number_of 0 put_limit) (λ (at : ℕ). one_token (bytes_of put_limit) (λ bytes. LoPut f.a (pos at) bytes)) f.more r f.left in
-    let k = first_token-some (bytes_of put_limit) (λ (bytes : List ℕ). no_token (LoPut f.a (pos g.a) bytes)) g.more r g.left in
-    let e = no_token-some (LoPut f.a (pos g.a) k.a) r k.more k.left in
-    put-spells f.a g.a k.a f.token g.token k.token k.more tokens r (three tokens f.more g.more k.more f.token g.token k.token f.is g.is k.is) e.0
-    (number_of-prints 0 oid_limit f.a f.token f.spells) (number_of-prints 0 put_limit g.a g.token g.spells) (bytes_of-prints put_limit k.token k.a k.spells) e.1
+-- a request with the tokens of its printed form, the first of them apart
+abbrev IsPrinted : (word : List ℕ) → (arguments : List (List ℕ)) → Request → Type 0
+IsPrinted word arguments r = IsSpelled r × Spells r (word ∷ arguments)
 
-form-some-3 : (word : List ℕ) (arguments : List (List ℕ)) (r : Request) → (if bytes_eq word (codes "lo_get") then get_of arguments else None) ≡ Some r → IsSpelled r × Spells r (word ∷ arguments)
-form-some-3 word arguments r h = elim (tested (bytes_eq word (codes "lo_get"))) [
-  | inl get ↦
-      let is : word ≡ codes "lo_get" = (bytes_eq-Decides word (codes "lo_get")).0 get in
-      rw is (get-some arguments r (rw get at h))
-  | inr other ↦ let none = rw other at h in cc none
-]
+-- each request that the form gives is spelled so
+abbrev IsExact : Form → Type 0
+IsExact f = Finds f.request (IsPrinted f.word)
 
-form-some-2 : (word : List ℕ) (arguments : List (List ℕ)) (r : Request) → (if bytes_eq word (codes "lo_put") then put_of arguments else if bytes_eq word (codes "lo_get") then get_of arguments else None) ≡ Some r → IsSpelled r × Spells r (word ∷ arguments)
-form-some-2 word arguments r h = elim (tested (bytes_eq word (codes "lo_put"))) [
-  | inl put ↦
-      let is : word ≡ codes "lo_put" = (bytes_eq-Decides word (codes "lo_put")).0 put in
-      rw is (put-some arguments r (rw put at h))
-  | inr other ↦ form-some-3 word arguments r (rw other at h)
-]
+begin-exact : Finds (no_token Begin) (IsPrinted (codes "begin"))
+begin-exact = no_token-finds (IsPrinted (codes "begin")) Begin (tt, refl)
 
-form-some : (word : List ℕ) (arguments : List (List ℕ)) (r : Request) → form_of word arguments ≡ Some r → IsSpelled r × Spells r (word ∷ arguments)
-form-some word arguments r h = elim (tested (bytes_eq word (codes "lo_create"))) [
-  | inl create ↦
-      let is : word ≡ codes "lo_create" = (bytes_eq-Decides word (codes "lo_create")).0 create in
-      rw is (create-some arguments r (rw create at h))
-  | inr other ↦ form-some-2 word arguments r (rw other at h)
+commit-exact : Finds (no_token Commit) (IsPrinted (codes "commit"))
+commit-exact = no_token-finds (IsPrinted (codes "commit")) Commit (tt, refl)
+
+vacuum-exact : Finds (no_token Vacuum) (IsPrinted (codes "vacuum"))
+vacuum-exact = no_token-finds (IsPrinted (codes "vacuum")) Vacuum (tt, refl)
+
+savepoint-exact : Finds savepoint_of (IsPrinted (codes "savepoint"))
+savepoint-exact = one_token-finds (IsPrinted (codes "savepoint")) name_of Savepoint (λ token name is. let n = name_of-prints token name is in (n.named, rw n.is refl))
+
+release-exact : Finds release_of (IsPrinted (codes "release"))
+release-exact = one_token-finds (IsPrinted (codes "release")) name_of Release (λ token name is. let n = name_of-prints token name is in (n.named, rw n.is refl))
+
+rollback-exact : Finds rollback_of (IsPrinted (codes "rollback"))
+rollback-exact =
+    none_or-finds (IsPrinted (codes "rollback")) Rollback (two_tokens (keyword_of (codes "to")) name_of (λ _ name. RollbackTo name)) (tt, refl)
+    (two_tokens-finds (IsPrinted (codes "rollback")) (keyword_of (codes "to")) name_of (λ _ name. RollbackTo name)
+    (λ to token u name is named. let n = name_of-prints token name named in (n.named, rw (keyword_of-is (codes "to") to u is, n.is) refl)))
+
+create-exact : Finds create_of (IsPrinted (codes "lo_create"))
+create-exact = one_token-finds (IsPrinted (codes "lo_create")) (number_of 1 oid_limit) LoCreate (λ token oid is. let p = number_of-prints 1 oid_limit oid token is in (p.low, (p.high, rw p.is refl)))
+
+put-printed : (oid at : ℕ) (bytes t u v : List ℕ) → Prints 0 oid_limit t oid → Prints 0 put_limit u at → PrintsBytes put_limit v bytes → IsPrinted (codes "lo_put") (t ∷ u ∷ v ∷ []) (LoPut oid (pos at) bytes)
+put-printed oid at bytes t u v p q b = ((q.high, b.few), (p.high, record { digits = b.digits; stands_for = b.stands_for; printed = rw (p.is, q.is, b.is) refl }))
+
+put-exact : Finds put_of (IsPrinted (codes "lo_put"))
+put-exact =
+    three_tokens-finds (IsPrinted (codes "lo_put")) (number_of 0 oid_limit) (number_of 0 put_limit) (bytes_of put_limit) (λ oid at bytes. LoPut oid (pos at) bytes)
+    (λ t u v oid at bytes is-t is-u is-v. put-printed oid at bytes t u v (number_of-prints 0 oid_limit oid t is-t) (number_of-prints 0 put_limit at u is-u) (bytes_of-prints put_limit v bytes is-v))
+
+get-exact : Finds get_of (IsPrinted (codes "lo_get"))
+get-exact = one_token-finds (IsPrinted (codes "lo_get")) (number_of 0 oid_limit) (λ oid. LoGet oid (pos 0) None) (λ token oid is. let p = number_of-prints 0 oid_limit oid token is in (refl, (p.high, rw p.is refl)))
+
+-- the facts of a table's forms are listed in the table's order
+infixr 20 ◌also◌
+◌also◌ : {P Q : Type 0} → P → Q → P × Q
+p also q = (p, q)
+
+large_objects-exact : AllByRecursion IsExact large_object_forms
+large_objects-exact = create-exact also put-exact also get-exact also tt
+
+all-exact : AllByRecursion IsExact forms
+all-exact = begin-exact also commit-exact also rollback-exact also savepoint-exact also release-exact also vacuum-exact also large_objects-exact
+
+form_in-some : (fs : List Form) → AllByRecursion IsExact fs → (word : List ℕ) (arguments : List (List ℕ)) (r : Request) → form_in fs word arguments ≡ Some r → IsPrinted word arguments r
+form_in-some [] exact word arguments r h = cc h
+form_in-some (f ∷ more) exact word arguments r h = elim (tested (bytes_eq word f.word)) [
+  | inl same ↦
+      let is : word ≡ f.word = (bytes_eq-Decides word f.word).0 same in
+      rw is (exact.0 arguments r (rw same at h))
+  | inr other ↦ form_in-some more exact.1 word arguments r (rw other at h)
 ]
 
 pub request-some : (tokens : List (List ℕ)) (r : Request) → request_of tokens ≡ Some r → IsSpelled r × Spells r tokens
 request-some [] r h = cc h
-request-some (word ∷ arguments) r h = form-some word arguments r h
+request-some (word ∷ arguments) r h = form_in-some forms all-exact word arguments r h
 
 pub entry-spelled : (line : List ℕ) (s : ℕ) (r : Request) → entry_of line ≡ Some (s, r) → IsSpelled r
 entry-spelled line s r h =
@@ -109,6 +144,13 @@ entry-spelled line s r h =
     rw (← same) (request-some f.more m.0 m.1).0
 
 pub request-spelled : (tokens : List (List ℕ)) (r : Request) → IsSpelled r × Spells r tokens → request_of tokens ≡ Some r
+request-spelled tokens Begin h = rw h.1 refl
+request-spelled tokens Commit h = rw h.1 refl
+request-spelled tokens Rollback h = rw h.1 refl
+request-spelled tokens (Savepoint name) h = rw (h.1, spelled_name name h.0) refl
+request-spelled tokens (Release name) h = rw (h.1, spelled_name name h.0) refl
+request-spelled tokens (RollbackTo name) h = rw (h.1, spelled_name name h.0) refl
+request-spelled tokens Vacuum h = rw h.1 refl
 request-spelled tokens (LoCreate oid) h = rw (h.1.1, number_of-decimal 1 oid_limit oid (omega (arith, h.1.0)) h.0 h.1.0) refl
 request-spelled tokens (LoPut oid (pos at) bytes) h =
     let s = h.1.1 in

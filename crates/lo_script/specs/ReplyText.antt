@@ -6,13 +6,19 @@ use Rattle.lo_base.specs.declared.refusal.Refusal.{Refusal}
 use Rattle.lo_base.specs.declared.reply.Reply.{Reply}
 use Rattle.lo_base.specs.declared.reply.Reply.TheVariants.{Word, Number, Content, Refused}
 use Rattle.lo_base.specs.declared.reply.Word.{Word as FixedWord}
-use Rattle.lo_base.specs.declared.reply.Word.TheVariants.{Ok}
+use Rattle.lo_base.specs.declared.reply.Word.TheVariants.{Begin, Commit, Rollback, Savepoint, Release, Vacuum, Ok}
 use Rattle.lo_base.specs.Cause.{code_of}
 use Rattle.lo_base.specs.Code.{sqlstate_of}
 use Rattle.lo_base.specs.Refusal.{text_of as refusal_text}
 use Rattle.lo_script.specs.Token.{mark_of}
 
 abbrev pub word_text : FixedWord → List ℕ
+word_text Begin = codes "BEGIN"
+word_text Commit = codes "COMMIT"
+word_text Rollback = codes "ROLLBACK"
+word_text Savepoint = codes "SAVEPOINT"
+word_text Release = codes "RELEASE"
+word_text Vacuum = codes "VACUUM"
 word_text Ok = codes "OK"
 
 -- a refusal names its SQLSTATE code and its cause's text

@@ -3,7 +3,7 @@ use Rattle.std.specs.Prelude.{◌≡◌, ℕ, ℤ, pos, negsuc, ◌≤◌, List,
 use Rattle.std.specs.Fmt.{decimal}
 use Rattle.hex.specs.Hex.{decode_of}
 use Rattle.lo_base.specs.declared.request.Request.{Request}
-use Rattle.lo_base.specs.declared.request.Request.TheVariants.{LoCreate, LoPut, LoGet}
+use Rattle.lo_base.specs.declared.request.Request.TheVariants.{Begin, Commit, Rollback, Savepoint, Release, RollbackTo, LoCreate, LoPut, LoGet, Vacuum}
 use Rattle.lo_script.specs.Form.{oid_limit}
 
 -- the tokens are the printed form of a put. Bytes have more than one spelling, since digits may be of either case
@@ -18,6 +18,13 @@ SpellsPutAt oid (negsuc n) bytes tokens = ⊥
 
 -- a request's tokens are those of its printed form
 abbrev pub Spells : Request → List (List ℕ) → Type 0
+Spells Begin tokens = tokens ≡ codes "begin" ∷ []
+Spells Commit tokens = tokens ≡ codes "commit" ∷ []
+Spells Rollback tokens = tokens ≡ codes "rollback" ∷ []
+Spells (Savepoint name) tokens = tokens ≡ codes "savepoint" ∷ name ∷ []
+Spells (Release name) tokens = tokens ≡ codes "release" ∷ name ∷ []
+Spells (RollbackTo name) tokens = tokens ≡ codes "rollback" ∷ codes "to" ∷ name ∷ []
 Spells (LoCreate oid) tokens = (oid ≤ oid_limit) × (tokens ≡ codes "lo_create" ∷ decimal oid ∷ [])
 Spells (LoPut oid at bytes) tokens = (oid ≤ oid_limit) × SpellsPutAt oid at bytes tokens
 Spells (LoGet oid from length) tokens = (oid ≤ oid_limit) × (tokens ≡ codes "lo_get" ∷ decimal oid ∷ [])
+Spells Vacuum tokens = tokens ≡ codes "vacuum" ∷ []

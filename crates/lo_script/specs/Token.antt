@@ -1,10 +1,11 @@
 -- The tokens of a line and the values that they spell.
-use Rattle.std.specs.Prelude.{ℕ, ◌+◌, ◌==◌, ◌&&◌, nat_le, List, ◌∷◌, length, take, drop, Option, Some, None, option_and_then, if◌then◌else◌, codes, bytes_eq}
+use Rattle.std.specs.Prelude.{ℕ, ◌+◌, ◌==◌, ◌&&◌, Bool, false, nat_le, List, [], ◌∷◌, length, take, drop, Option, Some, None, option_and_then, if◌then◌else◌, codes, bytes_eq}
 use Rattle.std.specs.Fmt.{decimal}
-use Rattle.std.specs.List.{slice_split}
+use Rattle.std.specs.List.{slice_split, list_all, find, range_with_len}
 use Rattle.std.specs.Result.{result_ok}
 use Rattle.std.specs.Str.Parse.{digits_value}
 use Rattle.hex.specs.Hex.{decode_of}
+use Rattle.lo_base.specs.Name.{starts_name, continues_name}
 
 -- a line is cut at every space, so two spaces enclose an empty token
 abbrev pub tokens_of : (line : List ℕ) → List (List ℕ)
@@ -30,10 +31,22 @@ abbrev pub bytes_of : (most : ℕ) → (token : List ℕ) → Option (List ℕ)
 bytes_of most token =
     if bytes_eq (take 2 token) (codes "\\x") then option_and_then (of_at_most most) (result_ok (decode_of (drop 2 token))) else None
 
+-- a name: at most 63 bytes, the first a small letter or `_`, the others these or digits
+abbrev pub is_name : (token : List ℕ) → Bool
+is_name [] = false
+is_name (first ∷ others) = starts_name first && list_all continues_name others && nat_le (length others) 62
+
+abbrev pub name_of : (token : List ℕ) → Option (List ℕ)
+name_of token = if is_name token then Some token else None
+
+-- a word of the grammar, which stands for nothing else
+abbrev pub keyword_of : (word token : List ℕ) → Option (Unit {0})
+keyword_of word token = if bytes_eq token word then Some tt else None
+
 -- a session's mark is its letter, `A` for 1, and a colon
 abbrev pub mark_of : (session : ℕ) → List ℕ
 mark_of session = (session + 64) ∷ codes ":"
 
--- so far there is session 1 alone
+-- the session whose mark the token is, of all sixteen
 abbrev pub session_of : (token : List ℕ) → Option ℕ
-session_of token = if bytes_eq token (mark_of 1) then Some 1 else None
+session_of token = find (λ session. bytes_eq token (mark_of session)) (range_with_len 1 16)

@@ -1,8 +1,8 @@
 ghost use Rattle.lo_script.specs.Answer.{Reads};
-ghost use Rattle.lo_script.specs.Form.{request_of, create_of, put_of, get_of};
+ghost use Rattle.lo_script.specs.Form.{no_token, request_of, form_in, large_object_forms, savepoint_of, release_of, rollback_of, create_of, put_of, get_of};
 
 use crate::error::ScriptError;
-use crate::token::Tokens;
+use crate::token::{Token, Tokens};
 use lo_base::Request;
 use std::alloc::Global;
 
@@ -14,6 +14,31 @@ pub fn read_request(alloc: Global, tokens: &mut Tokens) -> Result<Request, Scrip
     ensures { Reads (request_of tokens.old) result }
 {
     let word = tokens.next()?;
+    if word.is(b"begin") {
+        complete(tokens, Request::Begin)
+    } else if word.is(b"commit") {
+        complete(tokens, Request::Commit)
+    } else if word.is(b"rollback") {
+        read_rollback(alloc, tokens)
+    } else if word.is(b"savepoint") {
+        read_savepoint(alloc, tokens)
+    } else if word.is(b"release") {
+        read_release(alloc, tokens)
+    } else if word.is(b"vacuum") {
+        complete(tokens, Request::Vacuum)
+    } else {
+        read_large_object_form(alloc, &word, tokens)
+    }
+}
+
+/// A request on large objects, from the token after its word on.
+fn read_large_object_form(
+    alloc: Global,
+    word: &Token,
+    tokens: &mut Tokens,
+) -> Result<Request, ScriptError>
+    ensures { Reads (form_in large_object_forms word.now.text.now tokens.old) result }
+{
     if word.is(b"lo_create") {
         read_create(tokens)
     } else if word.is(b"lo_put") {
@@ -25,13 +50,48 @@ pub fn read_request(alloc: Global, tokens: &mut Tokens) -> Result<Request, Scrip
     }
 }
 
+/// The request, whose tokens were all taken.
+fn complete(tokens: &Tokens, request: Request) -> Result<Request, ScriptError>
+    ensures { Reads (no_token request tokens.now) result }
+{
+    tokens.end()?;
+    Ok(request)
+}
+
+/// `rollback` or `rollback to NAME`, from the second token on.
+fn read_rollback(alloc: Global, tokens: &mut Tokens) -> Result<Request, ScriptError>
+    ensures { Reads (rollback_of tokens.old) result }
+{
+    if tokens.is_at_end() {
+        return Ok(Request::Rollback);
+    }
+    tokens.next()?.keyword(b"to")?;
+    let name = tokens.next()?.name(alloc)?;
+    complete(tokens, Request::RollbackTo(name))
+}
+
+/// `savepoint NAME`, from the name on.
+fn read_savepoint(alloc: Global, tokens: &mut Tokens) -> Result<Request, ScriptError>
+    ensures { Reads (savepoint_of tokens.old) result }
+{
+    let name = tokens.next()?.name(alloc)?;
+    complete(tokens, Request::Savepoint(name))
+}
+
+/// `release NAME`, from the name on.
+fn read_release(alloc: Global, tokens: &mut Tokens) -> Result<Request, ScriptError>
+    ensures { Reads (release_of tokens.old) result }
+{
+    let name = tokens.next()?.name(alloc)?;
+    complete(tokens, Request::Release(name))
+}
+
 /// `lo_create OID`, from the number on.
 fn read_create(tokens: &mut Tokens) -> Result<Request, ScriptError>
     ensures { Reads (create_of tokens.old) result }
 {
     let oid = tokens.next()?.number(1, u32::MAX)?;
-    tokens.end()?;
-    Ok(Request::LoCreate(oid))
+    complete(tokens, Request::LoCreate(oid))
 }
 
 /// `lo_put OID INT8 BYTES`, from the number on.
@@ -41,8 +101,7 @@ fn read_put(alloc: Global, tokens: &mut Tokens) -> Result<Request, ScriptError>
     let oid = tokens.next()?.number(0, u32::MAX)?;
     let at = tokens.next()?.number(0, PUT_LIMIT)?;
     let bytes = tokens.next()?.bytes(alloc, PUT_LIMIT as usize)?;
-    tokens.end()?;
-    Ok(Request::LoPut(oid, i64::from(at), bytes))
+    complete(tokens, Request::LoPut(oid, i64::from(at), bytes))
 }
 
 /// `lo_get OID`, from the number on: all bytes of the object.
@@ -50,6 +109,5 @@ fn read_get(tokens: &mut Tokens) -> Result<Request, ScriptError>
     ensures { Reads (get_of tokens.old) result }
 {
     let oid = tokens.next()?.number(0, u32::MAX)?;
-    tokens.end()?;
-    Ok(Request::LoGet(oid, 0, None))
+    complete(tokens, Request::LoGet(oid, 0, None))
 }

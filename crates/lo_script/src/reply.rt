@@ -37,6 +37,12 @@ fn text_of_word(word: Word) -> &'static str
     ensures { result.now ≡ word_text word }
 {
     match word {
+        Word::Begin => "BEGIN",
+        Word::Commit => "COMMIT",
+        Word::Rollback => "ROLLBACK",
+        Word::Savepoint => "SAVEPOINT",
+        Word::Release => "RELEASE",
+        Word::Vacuum => "VACUUM",
         Word::Ok => "OK",
     }
 }

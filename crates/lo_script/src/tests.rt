@@ -6,25 +6,103 @@ use std::process::Abort;
 use std::test::Fail;
 
 /// Texts outside the grammar, with the line and the column of the first token that is not allowed.
-const BAD: [(&str, u64, u64); 58] = [
+const BAD: [(&str, u64, u64); 135] = [
     // the session's mark
     ("begin", 1, 1),
-    ("B: lo_get 1", 1, 1),
     ("a: lo_get 1", 1, 1),
     ("A lo_get 1", 1, 1),
     ("A:lo_get 1", 1, 1),
     (" A: lo_get 1", 1, 1),
     (" ", 1, 1),
     (" # x", 1, 1),
+    ("Q: begin", 1, 1),
+    ("@: begin", 1, 1),
+    ("p: begin", 1, 1),
+    ("1: begin", 1, 1),
+    ("AA: begin", 1, 1),
+    ("PA: begin", 1, 1),
+    (": begin", 1, 1),
+    ("P; begin", 1, 1),
+    ("B begin", 1, 1),
+    ("P:begin", 1, 1),
     // the word
     ("A:", 1, 3),
+    ("P:", 1, 3),
     ("A: ", 1, 4),
     ("A:  lo_get 1", 1, 4),
-    ("A: begin", 1, 4),
     ("A: lo_creat 1", 1, 4),
     ("A: LO_GET 1", 1, 4),
     ("A: lo_create\t1", 1, 4),
     ("A: # x", 1, 4),
+    ("A: lo_open 5 1", 1, 4),
+    ("B: BEGIN", 1, 4),
+    ("B: begins", 1, 4),
+    ("B: comit", 1, 4),
+    ("C: roll back", 1, 4),
+    ("C: rollbackto s", 1, 4),
+    ("C: Rollback", 1, 4),
+    ("D: savepoints s", 1, 4),
+    ("D: save point s", 1, 4),
+    ("E: releas s", 1, 4),
+    ("P: vacuum;", 1, 4),
+    ("P: abort", 1, 4),
+    ("P: to s", 1, 4),
+    // begin, commit and vacuum
+    ("A: begin x", 1, 10),
+    ("A: begin ", 1, 10),
+    ("A: begin  x", 1, 10),
+    ("A: begin repeatable read", 1, 10),
+    ("B: commit x", 1, 11),
+    ("B: commit ", 1, 11),
+    ("B: commit and chain", 1, 11),
+    ("P: vacuum t", 1, 11),
+    ("P: vacuum ", 1, 11),
+    ("P: vacuum full", 1, 11),
+    // rollback, alone or to a savepoint
+    ("A: rollback x", 1, 13),
+    ("A: rollback ", 1, 13),
+    ("A: rollback TO s", 1, 13),
+    ("A: rollback too s", 1, 13),
+    ("A: rollback t s", 1, 13),
+    ("A: rollback s", 1, 13),
+    ("A: rollback  to s", 1, 13),
+    ("A: rollback savepoint s", 1, 13),
+    ("A: rollback to", 1, 15),
+    ("A: rollback to ", 1, 16),
+    ("A: rollback to  s", 1, 16),
+    ("A: rollback to S", 1, 16),
+    ("A: rollback to 1s", 1, 16),
+    ("A: rollback to s ", 1, 18),
+    ("A: rollback to s t", 1, 18),
+    ("A: rollback to savepoint s", 1, 26),
+    // savepoint and release
+    ("A: savepoint", 1, 13),
+    ("A: savepoint ", 1, 14),
+    ("A: savepoint  s", 1, 14),
+    ("A: savepoint S", 1, 14),
+    ("A: savepoint sT", 1, 14),
+    ("A: savepoint 1", 1, 14),
+    ("A: savepoint s-t", 1, 14),
+    ("A: savepoint s.t", 1, 14),
+    ("A: savepoint \ts", 1, 14),
+    ("A: savepoint \u{00e9}", 1, 14),
+    ("A: savepoint s ", 1, 16),
+    ("A: savepoint s t", 1, 16),
+    (
+        "A: savepoint aaaaaaaaaaaaaaaaaaaaaaaaaaaaaaaaaaaaaaaaaaaaaaaaaaaaaaaaaaaaaaaa",
+        1,
+        14,
+    ),
+    ("O: release", 1, 11),
+    ("O: release ", 1, 12),
+    ("O: release  s", 1, 12),
+    ("O: release R", 1, 12),
+    ("O: release 2", 1, 12),
+    ("O: release `a", 1, 12),
+    ("O: release a{", 1, 12),
+    ("O: release s ", 1, 14),
+    ("O: release s t", 1, 14),
+    ("O: release savepoint s", 1, 22),
     // lo_create
     ("A: lo_create", 1, 13),
     ("A: lo_create ", 1, 14),
@@ -71,6 +149,12 @@ const BAD: [(&str, u64, u64); 58] = [
     ("\n\n# lo_get\nA: lo_get", 4, 10),
     ("A: lo_create 1\r\nA: lo_get 1\nA: lo_get x\nA:", 3, 11),
     ("A: lo_create 1\n\u{00e9}: lo_get \u{00e9}\n", 2, 1),
+    ("A: begin\r", 1, 4),
+    ("A: begin\r\r\n", 1, 4),
+    ("A: savepoint\r\n", 1, 13),
+    ("A: rollback to\r\n", 1, 15),
+    ("A: begin\nB: begin\nQ: begin\n", 3, 1),
+    ("A: begin\r\nA: savepoint a\r\nA: rollback to A\r\n", 3, 16),
 ];
 
 /// The place that the error names.
@@ -112,6 +196,56 @@ fn a_script_is_read(rt: HostRuntime) -> Result<(), Fail> {
     Ok(())
 }
 
+/// Requests of sessions 1, 2 and 16 in turn.
+const TRANSACTIONS: &[u8] = b"A: begin
+B: savepoint _a1
+P: vacuum
+A: rollback to to
+B: release z_0
+A: rollback
+P: savepoint aaaaaaaaaaaaaaaaaaaaaaaaaaaaaaaaaaaaaaaaaaaaaaaaaaaaaaaaaaaaaaa
+A: commit
+B: lo_get 5
+";
+
+#[test]
+fn each_session_has_its_program(rt: HostRuntime) -> Result<(), Fail> {
+    let script = read_script(rt.alloc(), TRANSACTIONS)?;
+    let a = SessionNo::new(1).ok_or("no session")?;
+    let b = SessionNo::new(2).ok_or("no session")?;
+    let o = SessionNo::new(15).ok_or("no session")?;
+    let p = SessionNo::new(16).ok_or("no session")?;
+    assert_eq!(rt;
+        script.order.items(),
+        [a, b, p, a, b, a, p, a, b].as_slice()
+    );
+    assert!(rt;
+        matches!(script.programs.lines(a), [Request::Begin, Request::RollbackTo(name), Request::Rollback, Request::Commit] if name.items() == b"to".as_slice())
+    );
+    let [savepoint, release, get] = script.programs.lines(b) else {
+        return Err(Fail::from("three lines were expected"));
+    };
+    assert!(rt; matches!(savepoint, Request::Savepoint(name) if name.items() == b"_a1".as_slice()));
+    assert!(rt; matches!(release, Request::Release(name) if name.items() == b"z_0".as_slice()));
+    assert!(rt; matches!(get, Request::LoGet(5, 0, None)));
+    assert!(rt; script.programs.lines(o).is_empty());
+    let long = [b'a'; 63];
+    assert!(rt;
+        matches!(script.programs.lines(p), [Request::Vacuum, Request::Savepoint(name)] if name.items() == long.as_slice())
+    );
+    Ok(())
+}
+
+#[test]
+fn each_letter_is_a_session(rt: HostRuntime) -> Result<(), Fail> {
+    for (n, letter) in (1..=16).zip(b"ABCDEFGHIJKLMNOP") {
+        let s = SessionNo::new(n).ok_or("no session")?;
+        let mark = [*letter, b':'];
+        assert_eq!(rt; Tokens::of(&mark, 1).next()?.session()?, s);
+    }
+    Ok(())
+}
+
 #[test]
 fn bytes_have_a_limit(rt: HostRuntime) -> Result<(), Fail> {
     let token = Tokens::of(b"\\x4142", 7).next()?;
@@ -121,11 +255,37 @@ fn bytes_have_a_limit(rt: HostRuntime) -> Result<(), Fail> {
     Ok(())
 }
 
-fn expect_text(rt: &impl Abort, alloc: Global, reply: &Reply, text: &str) -> Result<(), Fail> {
-    let s = SessionNo::new(1).ok_or("no session")?;
+fn expect_text(
+    rt: &impl Abort,
+    alloc: Global,
+    n: u8,
+    reply: &Reply,
+    text: &str,
+) -> Result<(), Fail> {
+    let s = SessionNo::new(n).ok_or("no session")?;
     let mut out = Bytes::from_slice(alloc, b"> ")?;
     reply_text(s, reply, &mut out)?;
     assert_eq!(rt; out.items(), text.as_bytes());
+    Ok(())
+}
+
+/// Each fixed word with a session and its printed line.
+const WORDS: [(u8, Word, &str); 8] = [
+    (1, Word::Ok, "> A: OK\n"),
+    (2, Word::Begin, "> B: BEGIN\n"),
+    (3, Word::Commit, "> C: COMMIT\n"),
+    (9, Word::Rollback, "> I: ROLLBACK\n"),
+    (14, Word::Savepoint, "> N: SAVEPOINT\n"),
+    (15, Word::Release, "> O: RELEASE\n"),
+    (16, Word::Vacuum, "> P: VACUUM\n"),
+    (16, Word::Ok, "> P: OK\n"),
+];
+
+#[test]
+fn words_are_printed(rt: HostRuntime) -> Result<(), Fail> {
+    for (n, word, text) in WORDS.iter() {
+        expect_text(&rt, rt.alloc(), *n, &Reply::Word(*word), text)?;
+    }
     Ok(())
 }
 
@@ -141,22 +301,35 @@ fn replies_are_printed(rt: HostRuntime) -> Result<(), Fail> {
         cause: Cause::ObjectExists,
         subject: 4294967295,
     };
-    expect_text(&rt, alloc, &Reply::Word(Word::Ok), "> A: OK\n")?;
-    expect_text(&rt, alloc, &Reply::Number(17000), "> A: 17000\n")?;
-    expect_text(&rt, alloc, &Reply::Number(-1), "> A: -1\n")?;
-    expect_text(&rt, alloc, &Reply::Content(bytes), "> A: \\x00000041fe\n")?;
-    expect_text(&rt, alloc, &Reply::Content(Bytes::new(alloc)), "> A: \\x\n")?;
+    expect_text(&rt, alloc, 1, &Reply::Number(17000), "> A: 17000\n")?;
+    expect_text(&rt, alloc, 2, &Reply::Number(-1), "> B: -1\n")?;
     expect_text(
         &rt,
         alloc,
+        1,
+        &Reply::Content(bytes),
+        "> A: \\x00000041fe\n",
+    )?;
+    expect_text(
+        &rt,
+        alloc,
+        1,
+        &Reply::Content(Bytes::new(alloc)),
+        "> A: \\x\n",
+    )?;
+    expect_text(
+        &rt,
+        alloc,
+        1,
         &Reply::Refused(missing),
         "> A: ERROR 42704: large object 7 does not exist\n",
     )?;
     expect_text(
         &rt,
         alloc,
+        16,
         &Reply::Refused(there),
-        "> A: ERROR 23505: large object 4294967295 already exists\n",
+        "> P: ERROR 23505: large object 4294967295 already exists\n",
     )
 }
 

@@ -1,13 +1,13 @@
-ghost use Rattle.std.specs.Prelude.{◌≡◌, ◌≢◌, ◌+◌, ◌<◌, ◌≤◌, ◌==◌, [], ◌∷◌, length, bytes_eq, IfOk, IfErr, OnOk, IfSome};
+ghost use Rattle.std.specs.Prelude.{◌≡◌, ◌≢◌, ◌↔◌, IsTrue, ◌+◌, ◌<◌, ◌≤◌, ◌==◌, [], ◌∷◌, length, bytes_eq, IfOk, IfErr, OnOk, IfSome};
 ghost use Rattle.std.specs.List.{slice_split, position};
 ghost use Rattle.std.specs.Option.{option_map_or};
 ghost use Rattle.lo_script.specs.Answer.{IsBad, Reads};
-ghost use Rattle.lo_script.specs.Token.{tokens_of, number_of, bytes_of, session_of};
+ghost use Rattle.lo_script.specs.Token.{tokens_of, keyword_of, session_of, number_of, name_of, bytes_of};
 
 use crate::error::{BadLine, ScriptError};
 use hex::FromHexError;
 use itoa::Buffer;
-use lo_base::{Bytes, SessionNo};
+use lo_base::{Bytes, Name, SessionNo, is_name};
 use std::alloc::Global;
 use std::marker::Model;
 use std::str;
@@ -72,10 +72,18 @@ impl<'a> Tokens<'a> {
         ensures ok { OnOk result (self.now ≡ []) }
         ensures bad { IfErr result (λ e. IsBad e → self.now ≢ []) }
     {
-        match self.rest {
-            Some(_) => Err(ScriptError::Bad(self.place())),
-            None => Ok(()),
+        if self.is_at_end() {
+            Ok(())
+        } else {
+            Err(ScriptError::Bad(self.place()))
         }
+    }
+
+    /// Whether no token is left.
+    pub fn is_at_end(&self) -> bool
+        ensures { IsTrue result ↔ (self.now ≡ []) }
+    {
+        self.rest.is_none()
     }
 
     /// The place of the next token, or of the line's end where none is left.
@@ -103,13 +111,24 @@ impl Token<'_> {
         self.text == word
     }
 
+    /// Checks that the token is that word.
+    pub fn keyword(&self, word: &[u8]) -> Result<(), ScriptError>
+        ensures { Reads (keyword_of word.now self.now.text.now) result }
+    {
+        if self.is(word) {
+            Ok(())
+        } else {
+            Err(self.refused())
+        }
+    }
+
     /// The session of a mark.
     pub fn session(&self) -> Result<SessionNo, ScriptError>
         ensures { Reads (session_of self.now.text.now) result }
     {
-        match SessionNo::new(1) {
-            Some(s) if self.is(b"A:") => Ok(s),
-            _ => Err(self.refused()),
+        match marked(self.text) {
+            Some(s) => Ok(s),
+            None => Err(self.refused()),
         }
     }
 
@@ -120,6 +139,18 @@ impl Token<'_> {
         match decimal(self.text) {
             Some(n) if least <= n && n <= most => Ok(n),
             _ => Err(self.refused()),
+        }
+    }
+
+    /// A savepoint's name.
+    #[tactic(auto, using(crate::proofs::Words::spelled_name, crate::proofs::Words::no_name))]
+    pub fn name(&self, alloc: Global) -> Result<Name, ScriptError>
+        ensures { Reads (name_of self.now.text.now) result }
+    {
+        if is_name(self.text) {
+            Ok(Name::from_slice(alloc, self.text)?)
+        } else {
+            Err(self.refused())
         }
     }
 
@@ -138,6 +169,16 @@ impl Token<'_> {
             Err(FromHexError::OutOfMemory) => Err(ScriptError::NoMemory),
             Err(_) => Err(self.refused()),
         }
+    }
+}
+
+/// The session whose mark the token is: a letter and a colon.
+fn marked(token: &[u8]) -> Option<SessionNo>
+    ensures { result ≡ session_of token.now }
+{
+    match token {
+        [letter, b':'] => SessionNo::new(letter.wrapping_sub(b'@')),
+        _ => None,
     }
 }
 
