@@ -1,5 +1,5 @@
 use Rattle.std.specs.Prelude.{◌≡◌, ℕ, ◌<◌, ◌≤◌, List, length, Some, None, IsTrue}
-use Rattle.lo_machine.specs.Run.{replies_of, schedule_of}
+use Rattle.lo_machine.specs.Run.{IsWhole, replies_of, schedule_of}
 use Rattle.lo_outside.specs.Files.{bytes_of}
 use Rattle.lo_script.specs.ReplyText.{lines_of}
 use Rattle.lo_script.specs.Script.{ScriptText, script_of}
@@ -11,11 +11,12 @@ use Rattle.lo_tool.specs.Words.{script_file}
 abbrev pub most_bytes : ℕ
 most_bytes = 67108864
 
--- The text of a run of some bytes: they spell a script, and the lines are those of the replies that the machine gives over
--- the script's schedule.
+-- The text of a run of some bytes: they spell a script, whose schedule does every line of every session once and in order, and
+-- the lines are those of the replies that the machine gives over that schedule.
 pub record RunsTo (bytes text : List ℕ) : Type 0 where
   pub script : ScriptText
   pub spells : script_of bytes ≡ Some script
+  pub whole : IsWhole script.programs (schedule_of script.order)
   pub replies : text ≡ lines_of (replies_of script.programs (schedule_of script.order))
 
 -- The text of the run of a file, of the bytes that its reads gave.

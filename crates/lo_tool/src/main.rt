@@ -11,20 +11,26 @@ mod tests;
 mod text;
 mod words;
 
+use lo_base::NoMemory;
 use lo_outside::{HostFiles, HostSink, OpenGate};
 use run::{Status, run};
-use std::alloc::{AllocError, Global};
+use std::alloc::Global;
 use std::env;
+use std::io::ErrorKind;
 use std::process::ExitCode;
 use std::rt::Env;
 
 /// The words after the program's name. None where the system gives words that are no text: they are no command.
-fn given_words<R: Env + Alloc<A = Global>>(rt: &R) -> Result<Vec<String>, AllocError> {
+fn given_words<R: Env + Alloc<A = Global>>(rt: &R) -> Result<Vec<String>, NoMemory> {
     let mut all = Vec::new(rt.alloc());
-    if let Ok(given) = env::args(rt) {
-        for word in given.skip(1) {
-            all.push(word)?;
+    match env::args(rt) {
+        Ok(given) => {
+            for word in given.skip(1) {
+                all.push(word)?;
+            }
         }
+        Err(e) if e.kind() == ErrorKind::OutOfMemory => return Err(NoMemory),
+        Err(_) => {}
     }
     Ok(all)
 }

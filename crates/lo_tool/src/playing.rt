@@ -1,5 +1,5 @@
 ghost use Rattle.std.specs.Prelude.{◌≡◌, ◌++◌, IfOk, OnOk};
-ghost use Rattle.lo_machine.specs.Run.{replies_of, schedule_of, IsOrderOf};
+ghost use Rattle.lo_machine.specs.Run.{replies_of, schedule_of, IsOrderOf, IsWhole};
 ghost use Rattle.lo_script.specs.ReplyText.{lines_of};
 ghost use Rattle.lo_tool.specs.Reading.{RunsBytes};
 
@@ -28,7 +28,8 @@ pub fn run_script(alloc: Global, name: &str, bytes: &[u8]) -> Result<Bytes, Stop
 /// Runs a script on the empty database, to its end.
 fn play(alloc: Global, script: Script) -> Result<Finished, NoMemory>
     requires { IsOrderOf script.programs script.order }
-    ensures { IfOk result (λ finished. finished.replies ≡ replies_of script.programs (schedule_of script.order)) }
+    ensures whole { IfOk result (λ finished. IsWhole script.programs (schedule_of script.order)) }
+    ensures replies { IfOk result (λ finished. finished.replies ≡ replies_of script.programs (schedule_of script.order)) }
 {
     orders_are_whole();
     let mut running = Running::start(alloc, script.programs)?;

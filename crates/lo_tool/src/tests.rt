@@ -1,5 +1,7 @@
 ghost use Rattle.std.specs.Prelude.{◌≡◌, ◌≤◌, length, IfOk};
 
+mod transactions;
+
 use crate::run::{Status, run};
 use lo_outside::{Failed, Files, MemFiles, MemSink, OpenGate};
 use std::alloc::{AllocError, Global};
@@ -51,14 +53,14 @@ impl Files for Told {
 // number of the call of the files, of standard output and of standard error that fails, if any (0: none). What is to
 // come: the status, and what the two sinks took.
 #[derive(Clone, Copy)]
-struct Case {
-    words: &'static str,
-    script: &'static str,
+struct Case<'a> {
+    words: &'a str,
+    script: &'a str,
     most: u64,
     failing: (u64, u64, u64),
     status: Status,
-    printed: &'static str,
-    said: &'static str,
+    printed: &'a str,
+    said: &'a str,
 }
 
 fn words_of(alloc: Global, line: &str) -> Result<Vec<String>, AllocError> {
@@ -70,7 +72,7 @@ fn words_of(alloc: Global, line: &str) -> Result<Vec<String>, AllocError> {
 }
 
 fn sink(alloc: Global, most: u64, failing: u64) -> Result<MemSink, Fail> {
-    let mut sink = MemSink::new(alloc, 1000, most.max(1))?;
+    let mut sink = MemSink::new(alloc, 4000, most.max(1))?;
     sink.fail(vec![in alloc; failing]?);
     Ok(sink)
 }
@@ -108,19 +110,23 @@ fn check_all<R: Abort + Threads + Sync>(rt: &R, alloc: Global, cases: &[Case]) -
     Ok(())
 }
 
-fn printing(most: u64) -> Case {
+fn done<'a>(script: &'a str, most: u64, printed: &'a str) -> Case<'a> {
     Case {
         words: "script - s",
-        script: SCRIPT,
+        script,
         most,
         failing: (0, 0, 0),
         status: Status::Done,
-        printed: PRINTED,
+        printed,
         said: "",
     }
 }
 
-fn usage(words: &'static str) -> Case {
+fn printing(most: u64) -> Case<'static> {
+    done(SCRIPT, most, PRINTED)
+}
+
+fn usage<'a>(words: &'a str) -> Case<'a> {
     Case {
         words,
         script: SCRIPT,
@@ -132,7 +138,7 @@ fn usage(words: &'static str) -> Case {
     }
 }
 
-fn bad(words: &'static str, script: &'static str, said: &'static str) -> Case {
+fn bad<'a>(words: &'a str, script: &'a str, said: &'a str) -> Case<'a> {
     Case {
         words,
         script,
@@ -144,13 +150,13 @@ fn bad(words: &'static str, script: &'static str, said: &'static str) -> Case {
     }
 }
 
-fn faulty(
-    words: &'static str,
+fn faulty<'a>(
+    words: &'a str,
     most: u64,
     failing: (u64, u64, u64),
-    printed: &'static str,
-    said: &'static str,
-) -> Case {
+    printed: &'a str,
+    said: &'a str,
+) -> Case<'a> {
     Case {
         words,
         script: SCRIPT,

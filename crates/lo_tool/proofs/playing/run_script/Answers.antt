@@ -8,7 +8,8 @@ returns c = record {
   ok = record {
     script = script_with c.in-Ok.script.programs c.in-Ok.script.order;
     spells = c.in-Ok.ensures.ok;
-    replies = c.in_ok-text_of.ensures ∙ ap lines_of (c.items-2.ensures ∙ c.in_ok-play.ensures);
+    whole = c.in_ok-play.ensures.whole;
+    replies = c.in_ok-text_of.ensures ∙ ap lines_of (c.items-2.ensures ∙ c.in_ok-play.ensures.replies);
   };
   err = tt;
   no_fault = tt;

@@ -1,0 +1,210 @@
+//! Scripts of transactions, with their whole output.
+use super::{check_all, done};
+use std::alloc::{AllocError, Global};
+use std::marker::Sync;
+use std::process::Abort;
+use std::test::Fail;
+use std::thread::Threads;
+
+/// A script and its whole output, which are written side by side.
+#[derive(Drop)]
+struct Dialogue {
+    script: String,
+    printed: String,
+}
+
+impl Dialogue {
+    fn new(alloc: Global) -> Dialogue {
+        Dialogue {
+            script: String::new(alloc),
+            printed: String::new(alloc),
+        }
+    }
+
+    /// A request of a session, in pieces, and the reply that is to come.
+    fn add(&mut self, letter: &str, request: &[&str], reply: &str) -> Result<(), AllocError> {
+        self.script.push_str(letter)?;
+        self.script.push_str(": ")?;
+        for piece in request {
+            self.script.push_str(*piece)?;
+        }
+        self.script.push_str("\n")?;
+        for piece in [letter, ": ", reply, "\n"] {
+            self.printed.push_str(piece)?;
+        }
+        Ok(())
+    }
+
+    fn check<R: Abort + Threads + Sync>(&self, rt: &R, alloc: Global) -> Result<(), Fail> {
+        let case = done(self.script.as_str(), 1000, self.printed.as_str());
+        check_all(rt, alloc, &[case])
+    }
+}
+
+fn check_dialogue<R: Abort + Threads + Sync>(
+    rt: &R,
+    alloc: Global,
+    lines: &[(&str, &str, &str)],
+) -> Result<(), Fail> {
+    let mut dialogue = Dialogue::new(alloc);
+    for (letter, request, reply) in lines {
+        dialogue.add(*letter, &[*request], *reply)?;
+    }
+    dialogue.check(rt, alloc)
+}
+
+const HELD_BY_1: &str = "ERROR 55P03: another transaction holds this: 1";
+
+const FAILED: &str =
+    "ERROR 25P02: current transaction is aborted, commands ignored until end of transaction block";
+
+#[test]
+fn a_savepoint_gives_the_bytes_back(rt: HostRuntime) -> Result<(), Fail> {
+    check_dialogue(
+        &rt,
+        rt.alloc(),
+        &[
+            ("A", "lo_create 17000", "17000"),
+            ("A", "begin", "BEGIN"),
+            ("A", "lo_put 17000 0 \\x41", "OK"),
+            ("A", "savepoint s", "SAVEPOINT"),
+            ("A", "lo_put 17000 0 \\x42", "OK"),
+            ("B", "lo_get 17000", "\\x"),
+            ("B", "lo_put 17000 0 \\x43", HELD_BY_1),
+            ("A", "rollback to s", "ROLLBACK"),
+            ("A", "lo_get 17000", "\\x41"),
+            ("A", "savepoint s", "SAVEPOINT"),
+            ("A", "release t", "ERROR 3B001: savepoint does not exist"),
+            ("A", "lo_get 17000", FAILED),
+            ("A", "rollback to s", "ROLLBACK"),
+            ("A", "lo_get 17000", "\\x41"),
+            ("A", "commit", "COMMIT"),
+            ("B", "lo_get 17000", "\\x41"),
+        ],
+    )
+}
+
+#[test]
+fn what_is_out_of_place_is_refused(rt: HostRuntime) -> Result<(), Fail> {
+    check_dialogue(
+        &rt,
+        rt.alloc(),
+        &[
+            (
+                "A",
+                "savepoint s",
+                "ERROR 25P01: no transaction block is open",
+            ),
+            ("A", "begin", "BEGIN"),
+            (
+                "A",
+                "vacuum",
+                "ERROR 25001: cannot run inside a transaction block",
+            ),
+            ("A", "commit", "ROLLBACK"),
+            ("A", "vacuum", "VACUUM"),
+        ],
+    )
+}
+
+// Neighbouring blocks of one object are written by two sessions, and both commit. A third is told the lower of the two.
+#[test]
+fn neighbouring_blocks_are_no_conflict(rt: HostRuntime) -> Result<(), Fail> {
+    check_dialogue(
+        &rt,
+        rt.alloc(),
+        &[
+            ("A", "lo_create 5", "5"),
+            ("B", "begin", "BEGIN"),
+            ("B", "lo_put 5 2048 \\x42", "OK"),
+            ("A", "begin", "BEGIN"),
+            ("A", "lo_put 5 2047 \\x41", "OK"),
+            ("C", "lo_put 5 2047 \\x4343", HELD_BY_1),
+            ("C", "lo_put 5 2048 \\x", "OK"),
+            ("A", "commit", "COMMIT"),
+            (
+                "C",
+                "lo_put 5 2047 \\x4343",
+                "ERROR 55P03: another transaction holds this: 2",
+            ),
+            ("B", "commit", "COMMIT"),
+            ("C", "lo_put 5 2047 \\x4343", "OK"),
+        ],
+    )
+}
+
+// An object that another open transaction has created is neither there nor free. The last block is open at the end.
+#[test]
+fn a_creation_holds_its_object(rt: HostRuntime) -> Result<(), Fail> {
+    check_dialogue(
+        &rt,
+        rt.alloc(),
+        &[
+            ("A", "begin", "BEGIN"),
+            ("A", "lo_create 6", "6"),
+            (
+                "P",
+                "lo_get 6",
+                "ERROR 42704: large object 6 does not exist",
+            ),
+            ("P", "begin", "BEGIN"),
+            ("P", "lo_create 6", HELD_BY_1),
+            ("A", "rollback", "ROLLBACK"),
+            ("P", "lo_create 6", FAILED),
+            ("P", "rollback", "ROLLBACK"),
+            ("P", "begin", "BEGIN"),
+            ("P", "lo_create 6", "6"),
+        ],
+    )
+}
+
+/// Each session with an object of its own.
+const SESSIONS: [(&str, &str); 16] = [
+    ("A", "17001"),
+    ("B", "17002"),
+    ("C", "17003"),
+    ("D", "17004"),
+    ("E", "17005"),
+    ("F", "17006"),
+    ("G", "17007"),
+    ("H", "17008"),
+    ("I", "17009"),
+    ("J", "17010"),
+    ("K", "17011"),
+    ("L", "17012"),
+    ("M", "17013"),
+    ("N", "17014"),
+    ("O", "17015"),
+    ("P", "17016"),
+];
+
+// Every session creates and fills its own object in a block. No session sees another's before its commit, and what the
+// last one asks for is refused, so that its commit is a rollback.
+#[test]
+fn sixteen_sessions_have_a_block_each(rt: HostRuntime) -> Result<(), Fail> {
+    let mut dialogue = Dialogue::new(rt.alloc());
+    for (letter, object) in SESSIONS.iter() {
+        dialogue.add(*letter, &["begin"], "BEGIN")?;
+        dialogue.add(*letter, &["lo_create ", *object], *object)?;
+    }
+    for (letter, object) in SESSIONS.iter() {
+        dialogue.add(*letter, &["lo_put ", *object, " 1 \\x41"], "OK")?;
+        dialogue.add(*letter, &["lo_get ", *object], "\\x0041")?;
+    }
+    dialogue.add(
+        "P",
+        &["lo_get 17001"],
+        "ERROR 42704: large object 17001 does not exist",
+    )?;
+    for (letter, _) in SESSIONS.iter() {
+        let reply = if *letter == "P" { "ROLLBACK" } else { "COMMIT" };
+        dialogue.add(*letter, &["commit"], reply)?;
+    }
+    dialogue.add("A", &["lo_get 17015"], "\\x0041")?;
+    dialogue.add(
+        "A",
+        &["lo_get 17016"],
+        "ERROR 42704: large object 17016 does not exist",
+    )?;
+    dialogue.check(&rt, rt.alloc())
+}
