@@ -11,7 +11,7 @@ use Rattle.lo_machine.specs.Block.{Block, with_block}
 use Rattle.lo_machine.specs.Blocks.{block_of}
 use Rattle.lo_machine.specs.Change.{standing, edits_on, after_seen}
 use Rattle.lo_machine.specs.History.{history_of, Adds}
-use Rattle.lo_machine.specs.Step.{State, Outcome, now, served, reply_to, state_after}
+use Rattle.lo_machine.specs.Step.{State, Outcome, now, reply_to, state_after}
 use Rattle.xact_core.specs.Stamp.{made_at, owner_of, IsIssued}
 use Rattle.xact_core.specs.Transactions.{levels_of}
 use Rattle.xact_core.specs.declared.stamp.Stamp.{Stamp}
@@ -56,10 +56,6 @@ Leaves e st s done = Keeps e (now st) done.edits (with_block s done.block st.blo
 pub record Does (old new : Engine) (session : ℕ) (outcome : State → Outcome) (reply : Reply) : Type 0 where
   pub does : (st : State) → KeepsAt old st → (reply ≡ (outcome st).reply) × Leaves new st session (outcome st)
   pub time : steps_of new ≡ steps_of old
-
--- the same of a request that a failed block lets through
-abbrev pub serving : (session : ℕ) → Request → State → Outcome
-serving s request st = served st s request
 
 -- the object of a number in a view
 abbrev pub object_kept : Engine → Snapshot → (oid : ℕ) → Option (List ℕ)

@@ -90,7 +90,7 @@ impl Blocks {
     }
 
     /// Adds a level with a name.
-    pub fn save(&mut self, s: SessionNo, name: Name) -> Result<(), NoMemory>
+    pub fn savepoint(&mut self, s: SessionNo, name: Name) -> Result<(), NoMemory>
         requires open { 0 < length (levels_of self.old.xacts s) }
         requires ready { IsReady self.old.xacts }
         ensures { OnOk result (Becomes same s (record { levels = levels_of self.old.xacts s ++ Some name ∷ []; failed = (block_of self.old s).failed }) self.old self.new) }

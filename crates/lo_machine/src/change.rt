@@ -101,7 +101,7 @@ pub fn exists(xacts: &Xacts, view: &Snapshot, changes: &[StampedChange]) -> bool
     false
 }
 
-/// The bytes of the object of these changes, as a view has it, if it is there. It costs a copy for each write.
+/// The bytes of the object of these changes, as a view has it, if it is there. It costs the bytes that were written.
 pub fn content(
     alloc: Global,
     xacts: &Xacts,

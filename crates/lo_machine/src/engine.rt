@@ -22,10 +22,10 @@ pub struct Engine {
 
 impl Engine {
     ghost use Rattle.lo_model.specs.declared.viewer.Viewer.TheVariants.{Whole};
-    ghost use Rattle.lo_machine.specs.Counts.{IsReady};
-    ghost use Rattle.lo_machine.specs.Engine.{StandsFor, Serves, Does, Tops, HasRoom, steps_of, object_kept};
     ghost use Rattle.lo_machine.specs.Blocks.{block_of};
     ghost use Rattle.lo_machine.specs.Change.{deed_of, is_there};
+    ghost use Rattle.lo_machine.specs.Counts.{IsReady};
+    ghost use Rattle.lo_machine.specs.Engine.{StandsFor, Serves, Does, Tops, HasRoom, steps_of, object_kept};
     ghost use Rattle.lo_machine.specs.Run.{start};
     ghost use Rattle.lo_machine.specs.Spelled.{IsSpelled, IsPutPlace, IsAllBytes, put_limit};
     ghost use Rattle.lo_machine.specs.Step.{outcome, served, changed, refused, no_savepoint, may_recover};
@@ -130,8 +130,8 @@ impl Engine {
         if !self.blocks.is_open(s) {
             return Ok(self.refuse(s, Cause::NoBlock, 0));
         }
-        self.blocks
-            .save(s, Name::from_slice(self.alloc, name.items())?)?;
+        let name = Name::from_slice(self.alloc, name.items())?;
+        self.blocks.savepoint(s, name)?;
         Ok(Reply::Word(Word::Savepoint))
     }
 

@@ -10,6 +10,6 @@ returns-then-not-is_open c = saves_nothing c.args.self.now _ c.args.s c.args.nam
 
 pub returns : goal.returns
 returns c = saves c.args.self.now _ c.args.s c.args.name.now (c.if-not-is_open.ensures.open refl)
-    (subst (λ (text : List ℕ). Becomes same c.args.s (record { levels = levels_of c.args.self.now.blocks.xacts c.args.s ++ Some text ∷ []; failed = (block_of c.args.self.now.blocks c.args.s).failed }) c.args.self.now.blocks c.save.new.self)
-    (c.in_ok-from_slice.ensures ∙ c.items.ensures) c.in_ok-save.ensures)
+    (subst (λ (text : List ℕ). Becomes same c.args.s (record { levels = levels_of c.args.self.now.blocks.xacts c.args.s ++ Some text ∷ []; failed = (block_of c.args.self.now.blocks c.args.s).failed }) c.args.self.now.blocks c.savepoint.new.self)
+    (c.in_ok-name.ensures ∙ c.items.ensures) c.in_ok-savepoint.ensures)
     refl
