@@ -1,4 +1,4 @@
-use crate::{Programs, Running};
+use crate::{Engine, Programs, Running};
 use lo_base::{Bytes, Cause, ListOf, Refusal, Reply, Request, SessionNo, Word};
 use std::test::Fail;
 
@@ -63,5 +63,24 @@ fn a_program_is_taken_and_placed(rt: HostRuntime) -> Result<(), Fail> {
     assert!(rt; programs.lines(s).is_empty());
     programs.place(s, ListOf::new(rt.alloc()));
     assert!(rt; programs.lines(s).is_empty());
+    Ok(())
+}
+
+// One session's block, whose creation another session neither sees nor may repeat.
+#[test]
+fn an_engine_serves_two_sessions(rt: HostRuntime) -> Result<(), Fail> {
+    let first = SessionNo::new(1).ok_or("1")?;
+    let second = SessionNo::new(2).ok_or("2")?;
+    let held = Refusal {
+        cause: Cause::Busy,
+        subject: 1,
+    };
+    let mut engine = Engine::start(rt.alloc())?;
+    let begun = engine.step(first, &Request::Begin)?;
+    assert!(rt; matches!(begun, Reply::Word(Word::Begin)));
+    let created = engine.step(first, &Request::LoCreate(5))?;
+    assert!(rt; matches!(created, Reply::Number(5)));
+    let refused = engine.step(second, &Request::LoCreate(5))?;
+    assert!(rt; matches!(refused, Reply::Refused(r) if r == held));
     Ok(())
 }
