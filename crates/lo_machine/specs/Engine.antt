@@ -25,6 +25,10 @@ pub record Keeps (e : Engine) (clock : ℕ) (edits : List (Edit Deed)) (blocks :
   pub objects : (o : ℕ) → standing e.blocks.xacts o (history_of e.history o) ≡ edits_on o edits
   pub issued : (o : ℕ) → All (λ (made : StampedChange). IsIssued e.blocks.xacts made.stamp) (history_of e.history o)
 
+-- an engine that found memory for all its requests
+abbrev pub IsTold : Engine → Type 0
+IsTold e = e.is_lost ≡ false
+
 -- Which states an engine stands for. Nothing is told of one that found no memory.
 pub record StandsFor (e : Engine) (st : State) : Type 0 where
   pub told : e.is_lost ≡ false → Keeps e st.advances st.database.edits st.blocks

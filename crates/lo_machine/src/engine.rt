@@ -25,7 +25,7 @@ impl Engine {
     ghost use Rattle.lo_machine.specs.Blocks.{block_of};
     ghost use Rattle.lo_machine.specs.Change.{deed_of, is_there};
     ghost use Rattle.lo_machine.specs.Counts.{IsReady};
-    ghost use Rattle.lo_machine.specs.Engine.{StandsFor, Serves, Does, Tops, HasRoom, steps_of, object_kept};
+    ghost use Rattle.lo_machine.specs.Engine.{IsTold, StandsFor, Serves, Does, Tops, HasRoom, steps_of, object_kept};
     ghost use Rattle.lo_machine.specs.Run.{start};
     ghost use Rattle.lo_machine.specs.Spelled.{IsSpelled, IsPutPlace, IsAllBytes, put_limit};
     ghost use Rattle.lo_machine.specs.Step.{outcome, served, changed, refused, no_savepoint, may_recover};
@@ -34,7 +34,7 @@ impl Engine {
 
     /// An engine of the empty database.
     pub fn start(alloc: Global) -> Result<Engine, NoMemory>
-        ensures found { IfOk result (λ engine. engine.is_lost ≡ false) }
+        ensures found { IfOk result IsTold }
         ensures stands { IfOk result (λ engine. StandsFor engine start.state) }
         ensures steps { IfOk result (λ engine. steps_of engine ≡ 0) }
     {
