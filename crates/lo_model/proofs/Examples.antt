@@ -10,7 +10,7 @@ use Rattle.lo_model.specs.View.{view}
 use Rattle.lo_model.specs.Object.{object_in, object_after_all}
 use Rattle.lo_model.specs.Row.{row_in}
 use Rattle.lo_model.specs.Stored.{stored_after_update}
-use Rattle.lo_model.specs.Touch.{Blocks, RowsOf, Nothing, touched, meets, busy_with}
+use Rattle.lo_model.specs.Touch.{Pages, RowsOf, Nothing, touched, meets, busy_with}
 use Rattle.lo_model.specs.Levels.{released, undone, committed, aborted}
 use Rattle.lo_model.specs.Opening.{object_deeds}
 
@@ -117,52 +117,52 @@ others_are_left = refl
 
 -- Conflicts
 
--- 2 bytes from 2047 on touch blocks 0 and 1
-touches_two_blocks : touched (Write 5 2047 (1 ∷ 2 ∷ [])) ≡ Blocks 5 0 1
-touches_two_blocks = refl
+-- 2 bytes from 2047 on touch pages 0 and 1
+touches_two_pages : touched (Write 5 2047 (1 ∷ 2 ∷ [])) ≡ Pages 5 0 1
+touches_two_pages = refl
 
--- 1 byte there touches block 0 alone
-touches_one_block : touched (Write 5 2047 (1 ∷ [])) ≡ Blocks 5 0 0
-touches_one_block = refl
+-- 1 byte there touches page 0 alone
+touches_one_page : touched (Write 5 2047 (1 ∷ [])) ≡ Pages 5 0 0
+touches_one_page = refl
 
 touches_nothing : touched (Write 5 2047 []) ≡ Nothing
 touches_nothing = refl
 
--- session 1 has an open write on block 0 of object 5, session 3 on block 4
+-- session 1 has an open write on page 0 of object 5, session 3 on page 4
 abbrev open_writes : List (Edit Deed)
 open_writes = made_at 3 (Running 1 1) (Write 5 0 (65 ∷ [])) ∷ made_at 4 (Running 3 2) (Write 5 8192 (66 ∷ [])) ∷ []
 
--- session 2 may not write into block 0, at any place of it
-same_block : busy_with 2 (touched (Write 5 2047 (67 ∷ []))) open_writes ≡ Some 1
-same_block = refl
+-- session 2 may not write into page 0, at any offset of it
+same_page : busy_with 2 (touched (Write 5 2047 (67 ∷ []))) open_writes ≡ Some 1
+same_page = refl
 
--- but into the neighbouring block, and into block 0 of another object
-neighbouring_block : busy_with 2 (touched (Write 5 2048 (67 ∷ []))) open_writes ≡ None
-neighbouring_block = refl
+-- but into the neighbouring page, and into page 0 of another object
+neighbouring_page : busy_with 2 (touched (Write 5 2048 (67 ∷ []))) open_writes ≡ None
+neighbouring_page = refl
 
 other_object : busy_with 2 (touched (Write 6 0 (67 ∷ []))) open_writes ≡ None
 other_object = refl
 
 -- session 1 itself may write there
-own_block : busy_with 1 (touched (Write 5 0 (67 ∷ []))) open_writes ≡ None
-own_block = refl
+own_page : busy_with 1 (touched (Write 5 0 (67 ∷ []))) open_writes ≡ None
+own_page = refl
 
--- a cut conflicts with a write above it, and not with one below the block of the new end
+-- a cut conflicts with a write above it, and not with one below the page of the new end
 cut_below_a_write : busy_with 2 (touched (Cut 5 2048)) open_writes ≡ Some 3
 cut_below_a_write = refl
 
 cut_above_the_writes : busy_with 2 (touched (Cut 5 10240)) open_writes ≡ None
 cut_above_the_writes = refl
 
--- a cut in the block of a write conflicts with it
-cut_in_the_block_of_a_write : busy_with 2 (touched (Cut 5 9000)) open_writes ≡ Some 3
-cut_in_the_block_of_a_write = refl
+-- a cut in the page of a write conflicts with it
+cut_in_the_page_of_a_write : busy_with 2 (touched (Cut 5 9000)) open_writes ≡ Some 3
+cut_in_the_page_of_a_write = refl
 
--- an unlink touches all blocks, and the lowest session of several is named
+-- an unlink touches the whole object, and the lowest session of several is named
 unlink_touches_all : busy_with 2 (touched (Unlink 5)) open_writes ≡ Some 1
 unlink_touches_all = refl
 
--- an object that another session has created, and not committed, is busy at every place
+-- an object that another session has created, and not committed, is busy at every offset
 created_and_open : busy_with 2 (touched (Write 7 9000 (67 ∷ []))) (made_at 3 (Running 1 1) (Create 7) ∷ []) ≡ Some 1
 created_and_open = refl
 
@@ -199,11 +199,11 @@ updated_entries = refl
 
 -- Openings
 
--- an object of 2049 zeros is a creation and a cut, since no block of it has a byte that is not 0
+-- an object of 2049 zeros is a creation and a cut, since no page of it has a byte that is not 0
 opened_zeros : object_deeds (record { oid = 5; bytes = replicate 2049 0 }) ≡ Create 5 ∷ Cut 5 2049 ∷ []
 opened_zeros = refl
 
--- an object whose last block is written needs no cut
+-- an object whose last page is written needs no cut
 opened_end : object_deeds (record { oid = 5; bytes = replicate 2048 0 ++ (7 ∷ []) }) ≡ Create 5 ∷ Write 5 2048 (7 ∷ []) ∷ []
 opened_end = refl
 

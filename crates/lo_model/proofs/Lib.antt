@@ -1,2 +1,4 @@
 mod Examples
+pub mod HeldLaws
+pub mod ListingLaws
 pub mod TouchLaws

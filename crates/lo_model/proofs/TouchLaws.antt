@@ -1,11 +1,11 @@
--- What is touched meets exactly where a place is shared.
-use Rattle.std.proofs.Common.{◌≡◌, ℕ, ℤ, min, max, true, ◌&&◌, ◌==◌, nat_le, List, refl, arith, sym, ◌∙◌}
+-- What is touched meets exactly where a part is shared.
+use Rattle.std.proofs.Common.{◌≡◌, ℕ, ℤ, max, true, List, refl, arith, sym, ◌∙◌}
 use Rattle.std.specs.Prelude.{bytes_eq, pos}
 use Rattle.std.specs.Ordering.{int_eq}
 use Rattle.std.proofs.lemmas.Bool.Decides.{nat_tests, Decides-int_eq}
 use Rattle.std.proofs.lemmas.Slice.Eq.{bytes_eq-Decides}
 use Rattle.lo_model.specs.Row.{is_row}
-use Rattle.lo_model.specs.Touch.{Touched, Blocks, BlocksFrom, RowOf, RowsOf, Nothing, Place, Block, RowAt, covers, meets, SharesPlace}
+use Rattle.lo_model.specs.Touch.{Touched, Pages, PagesFrom, WholeObject, RowOf, RowsOf, Nothing, Part, Page, Object, RowAt, covers, meets, SharesPart}
 
 table_itself : (t : List ℕ) → bytes_eq t t ≡ true
 table_itself t = (bytes_eq-Decides t t).1 refl
@@ -36,77 +36,89 @@ row_through t u w i j k g h =
     let same_id : i ≡ j = (Decides-int_eq i k).0 (id_of_row t w i k g) ∙ sym ((Decides-int_eq j k).0 (id_of_row u w j k h)) in
     row_of t u i j (table_through t u w (table_of_row t w i k g) (table_of_row u w j k h)) ((Decides-int_eq i j).1 same_id)
 
-between : (o p f l g m : ℕ) → ((o == p) && nat_le (max f g) (min l m)) ≡ true → SharesPlace (Blocks o f l) (Blocks p g m)
-between o p f l g m h = record { place = Block o (max f g); first = grind (arith, nat_tests, h); second = grind (arith, nat_tests, h) }
+-- a page that both of two spans of pages cover
+on_page : (a b : Touched) (o n : ℕ) → covers a (Page o n) ≡ true → covers b (Page o n) ≡ true → SharesPart a b
+on_page a b o n h k = record { part = Page o n; first = h; second = k }
 
-between_and_from : (o p f l g : ℕ) → ((o == p) && nat_le (max f g) l) ≡ true → SharesPlace (Blocks o f l) (BlocksFrom p g)
-between_and_from o p f l g h = record { place = Block o (max f g); first = grind (arith, nat_tests, h); second = grind (arith, nat_tests, h) }
-
-from_and_between : (o p f g m : ℕ) → ((o == p) && nat_le (max f g) m) ≡ true → SharesPlace (BlocksFrom o f) (Blocks p g m)
-from_and_between o p f g m h = record { place = Block o (max f g); first = grind (arith, nat_tests, h); second = grind (arith, nat_tests, h) }
-
-from_both : (o p f g : ℕ) → (o == p) ≡ true → SharesPlace (BlocksFrom o f) (BlocksFrom p g)
-from_both o p f g h = record { place = Block o (max f g); first = grind (arith, nat_tests, h); second = grind (arith, nat_tests, h) }
-
-pub shared : (a b : Touched) → meets a b ≡ true → SharesPlace a b
-shared (Blocks o f l) (Blocks p g m) h = between o p f l g m h
-shared (Blocks o f l) (BlocksFrom p g) h = between_and_from o p f l g h
-shared (BlocksFrom o f) (Blocks p g m) h = from_and_between o p f g m h
-shared (BlocksFrom o f) (BlocksFrom p g) h = from_both o p f g h
-shared (RowOf t i) (RowOf u j) h = record { place = RowAt u j; first = h; second = row_itself u j }
-shared (RowOf t i) (RowsOf u) h = record { place = RowAt t i; first = row_itself t i; second = table_back t u h }
-shared (RowsOf t) (RowOf u j) h = record { place = RowAt u j; first = h; second = row_itself u j }
-shared (RowsOf t) (RowsOf u) h = record { place = RowAt u (pos 0); first = h; second = table_itself u }
+pub shared : (a b : Touched) → meets a b ≡ true → SharesPart a b
+shared (Pages o f l) (Pages p g m) h = on_page (Pages o f l) (Pages p g m) o (max f g) (grind (arith, nat_tests, h)) (grind (arith, nat_tests, h))
+shared (Pages o f l) (PagesFrom p g) h = on_page (Pages o f l) (PagesFrom p g) o (max f g) (grind (arith, nat_tests, h)) (grind (arith, nat_tests, h))
+shared (Pages o f l) (WholeObject p) h = on_page (Pages o f l) (WholeObject p) o f (grind (arith, nat_tests, h)) (grind (arith, nat_tests, h))
+shared (PagesFrom o f) (Pages p g m) h = on_page (PagesFrom o f) (Pages p g m) o (max f g) (grind (arith, nat_tests, h)) (grind (arith, nat_tests, h))
+shared (PagesFrom o f) (PagesFrom p g) h = on_page (PagesFrom o f) (PagesFrom p g) o (max f g) (grind (arith, nat_tests, h)) (grind (arith, nat_tests, h))
+shared (PagesFrom o f) (WholeObject p) h = on_page (PagesFrom o f) (WholeObject p) o f (grind (arith, nat_tests, h)) (grind (arith, nat_tests, h))
+shared (WholeObject o) (Pages p g m) h = on_page (WholeObject o) (Pages p g m) o g (grind (arith, nat_tests, h)) (grind (arith, nat_tests, h))
+shared (WholeObject o) (PagesFrom p g) h = on_page (WholeObject o) (PagesFrom p g) o g (grind (arith, nat_tests, h)) (grind (arith, nat_tests, h))
+shared (WholeObject o) (WholeObject p) h = on_page (WholeObject o) (WholeObject p) o 0 (grind (arith, nat_tests, h)) (grind (arith, nat_tests, h))
+shared (RowOf t i) (RowOf u j) h = record { part = RowAt u j; first = h; second = row_itself u j }
+shared (RowOf t i) (RowsOf u) h = record { part = RowAt t i; first = row_itself t i; second = table_back t u h }
+shared (RowsOf t) (RowOf u j) h = record { part = RowAt u j; first = h; second = row_itself u j }
+shared (RowsOf t) (RowsOf u) h = record { part = RowAt u (pos 0); first = h; second = table_itself u }
 shared Nothing b h = cc
-shared (Blocks o f l) Nothing h = cc
-shared (Blocks o f l) (RowOf u j) h = cc
-shared (Blocks o f l) (RowsOf u) h = cc
-shared (BlocksFrom o f) Nothing h = cc
-shared (BlocksFrom o f) (RowOf u j) h = cc
-shared (BlocksFrom o f) (RowsOf u) h = cc
+shared (Pages o f l) Nothing h = cc
+shared (Pages o f l) (RowOf u j) h = cc
+shared (Pages o f l) (RowsOf u) h = cc
+shared (PagesFrom o f) Nothing h = cc
+shared (PagesFrom o f) (RowOf u j) h = cc
+shared (PagesFrom o f) (RowsOf u) h = cc
+shared (WholeObject o) Nothing h = cc
+shared (WholeObject o) (RowOf u j) h = cc
+shared (WholeObject o) (RowsOf u) h = cc
 shared (RowOf t i) Nothing h = cc
-shared (RowOf t i) (Blocks p g m) h = cc
-shared (RowOf t i) (BlocksFrom p g) h = cc
+shared (RowOf t i) (Pages p g m) h = cc
+shared (RowOf t i) (PagesFrom p g) h = cc
+shared (RowOf t i) (WholeObject p) h = cc
 shared (RowsOf t) Nothing h = cc
-shared (RowsOf t) (Blocks p g m) h = cc
-shared (RowsOf t) (BlocksFrom p g) h = cc
+shared (RowsOf t) (Pages p g m) h = cc
+shared (RowsOf t) (PagesFrom p g) h = cc
+shared (RowsOf t) (WholeObject p) h = cc
 
-in_both : (o p q f l g m b : ℕ) → ((o == q) && (nat_le f b && nat_le b l)) ≡ true → ((p == q) && (nat_le g b && nat_le b m)) ≡ true → ((o == p) && nat_le (max f g) (min l m)) ≡ true
-in_both o p q f l g m b h k = grind (arith, nat_tests, h, k)
-
-in_between_and_from : (o p q f l g b : ℕ) → ((o == q) && (nat_le f b && nat_le b l)) ≡ true → ((p == q) && nat_le g b) ≡ true → ((o == p) && nat_le (max f g) l) ≡ true
-in_between_and_from o p q f l g b h k = grind (arith, nat_tests, h, k)
-
-in_from_and_between : (o p q f g m b : ℕ) → ((o == q) && nat_le f b) ≡ true → ((p == q) && (nat_le g b && nat_le b m)) ≡ true → ((o == p) && nat_le (max f g) m) ≡ true
-in_from_and_between o p q f g m b h k = grind (arith, nat_tests, h, k)
-
-in_from_both : (o p q f g b : ℕ) → ((o == q) && nat_le f b) ≡ true → ((p == q) && nat_le g b) ≡ true → (o == p) ≡ true
-in_from_both o p q f g b h k = grind (arith, nat_tests, h, k)
-
-pub met : (a b : Touched) (place : Place) → covers a place ≡ true → covers b place ≡ true → meets a b ≡ true
-met (Blocks o f l) (Blocks p g m) (Block q b) h k = in_both o p q f l g m b h k
-met (Blocks o f l) (BlocksFrom p g) (Block q b) h k = in_between_and_from o p q f l g b h k
-met (BlocksFrom o f) (Blocks p g m) (Block q b) h k = in_from_and_between o p q f g m b h k
-met (BlocksFrom o f) (BlocksFrom p g) (Block q b) h k = in_from_both o p q f g b h k
+pub met : (a b : Touched) (part : Part) → covers a part ≡ true → covers b part ≡ true → meets a b ≡ true
+met (Pages o f l) (Pages p g m) (Page q n) h k = grind (arith, nat_tests, h, k)
+met (Pages o f l) (PagesFrom p g) (Page q n) h k = grind (arith, nat_tests, h, k)
+met (Pages o f l) (WholeObject p) (Page q n) h k = grind (arith, nat_tests, h, k)
+met (PagesFrom o f) (Pages p g m) (Page q n) h k = grind (arith, nat_tests, h, k)
+met (PagesFrom o f) (PagesFrom p g) (Page q n) h k = grind (arith, nat_tests, h, k)
+met (PagesFrom o f) (WholeObject p) (Page q n) h k = grind (arith, nat_tests, h, k)
+met (WholeObject o) (Pages p g m) (Page q n) h k = grind (arith, nat_tests, h, k)
+met (WholeObject o) (PagesFrom p g) (Page q n) h k = grind (arith, nat_tests, h, k)
+met (WholeObject o) (WholeObject p) (Page q n) h k = grind (arith, nat_tests, h, k)
+met (WholeObject o) (WholeObject p) (Object q) h k = grind (arith, nat_tests, h, k)
 met (RowOf t i) (RowOf u j) (RowAt w n) h k = row_through t u w i j n h k
 met (RowOf t i) (RowsOf u) (RowAt w n) h k = table_through t u w (table_of_row t w i n h) k
 met (RowsOf t) (RowOf u j) (RowAt w n) h k = table_through t u w h (table_of_row u w j n k)
 met (RowsOf t) (RowsOf u) (RowAt w n) h k = table_through t u w h k
-met (Blocks o f l) b (RowAt w n) h k = cc
-met (BlocksFrom o f) b (RowAt w n) h k = cc
-met (RowOf t i) b (Block q n) h k = cc
-met (RowsOf t) b (Block q n) h k = cc
-met Nothing b (Block q n) h k = cc
+met Nothing b (Page q n) h k = cc
+met (Pages o f l) Nothing (Page q n) h k = cc
+met (Pages o f l) (RowOf u j) (Page q n) h k = cc
+met (Pages o f l) (RowsOf u) (Page q n) h k = cc
+met (PagesFrom o f) Nothing (Page q n) h k = cc
+met (PagesFrom o f) (RowOf u j) (Page q n) h k = cc
+met (PagesFrom o f) (RowsOf u) (Page q n) h k = cc
+met (WholeObject o) Nothing (Page q n) h k = cc
+met (WholeObject o) (RowOf u j) (Page q n) h k = cc
+met (WholeObject o) (RowsOf u) (Page q n) h k = cc
+met (RowOf t i) b (Page q n) h k = cc
+met (RowsOf t) b (Page q n) h k = cc
+met Nothing b (Object q) h k = cc
+met (Pages o f l) b (Object q) h k = cc
+met (PagesFrom o f) b (Object q) h k = cc
+met (WholeObject o) Nothing (Object q) h k = cc
+met (WholeObject o) (Pages p g m) (Object q) h k = cc
+met (WholeObject o) (PagesFrom p g) (Object q) h k = cc
+met (WholeObject o) (RowOf u j) (Object q) h k = cc
+met (WholeObject o) (RowsOf u) (Object q) h k = cc
+met (RowOf t i) b (Object q) h k = cc
+met (RowsOf t) b (Object q) h k = cc
 met Nothing b (RowAt w n) h k = cc
-met (Blocks o f l) Nothing (Block q n) h k = cc
-met (Blocks o f l) (RowOf u j) (Block q n) h k = cc
-met (Blocks o f l) (RowsOf u) (Block q n) h k = cc
-met (BlocksFrom o f) Nothing (Block q n) h k = cc
-met (BlocksFrom o f) (RowOf u j) (Block q n) h k = cc
-met (BlocksFrom o f) (RowsOf u) (Block q n) h k = cc
+met (Pages o f l) b (RowAt w n) h k = cc
+met (PagesFrom o f) b (RowAt w n) h k = cc
+met (WholeObject o) b (RowAt w n) h k = cc
 met (RowOf t i) Nothing (RowAt w n) h k = cc
-met (RowOf t i) (Blocks p g m) (RowAt w n) h k = cc
-met (RowOf t i) (BlocksFrom p g) (RowAt w n) h k = cc
+met (RowOf t i) (Pages p g m) (RowAt w n) h k = cc
+met (RowOf t i) (PagesFrom p g) (RowAt w n) h k = cc
+met (RowOf t i) (WholeObject p) (RowAt w n) h k = cc
 met (RowsOf t) Nothing (RowAt w n) h k = cc
-met (RowsOf t) (Blocks p g m) (RowAt w n) h k = cc
-met (RowsOf t) (BlocksFrom p g) (RowAt w n) h k = cc
+met (RowsOf t) (Pages p g m) (RowAt w n) h k = cc
+met (RowsOf t) (PagesFrom p g) (RowAt w n) h k = cc
+met (RowsOf t) (WholeObject p) (RowAt w n) h k = cc

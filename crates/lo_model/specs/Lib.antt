@@ -1,10 +1,16 @@
 pub mod Clock
 pub mod Database
+pub mod Descriptor
 pub mod Edit
+pub mod Held
 pub mod Levels
+pub mod Listing
+pub mod Numbering
 pub mod Object
 pub mod Opening
 pub mod Row
+pub mod Session
 pub mod Stored
 pub mod Touch
+pub mod Transaction
 pub mod View

@@ -1,5 +1,5 @@
-use Rattle.std.specs.Prelude.{ℕ, ℤ, pos, ◌+◌, ◌-◌, ◌*◌, ◌/◌, min, zero, suc, Bool, not, ◌==◌, ◌||◌, List, [], ◌∷◌, ◌++◌, map, filter, flat_map, length, take, drop, if◌then◌else◌}
-use Rattle.std.specs.List.{list_any}
+use Rattle.std.specs.Prelude.{ℕ, ℤ, pos, ◌+◌, ◌*◌, min, Bool, not, ◌==◌, ◌||◌, List, [], ◌∷◌, ◌++◌, map, filter, flat_map, length, take, drop, if◌then◌else◌}
+use Rattle.std.specs.List.{list_any, range_with_len}
 use Rattle.lo_base.specs.declared.value.Value.{Value}
 use Rattle.lo_base.specs.declared.value.Value.TheVariants.{Int}
 use Rattle.lo_base.specs.declared.column.Column.{Column}
@@ -7,7 +7,8 @@ use Rattle.lo_model.specs.declared.owner.Owner.TheVariants.{Committed}
 use Rattle.lo_model.specs.Edit.{Deed, Create, Write, Cut, Put, edits_by}
 use Rattle.lo_model.specs.Database.{Database}
 use Rattle.lo_model.specs.Stored.{stored_anew}
-use Rattle.lo_model.specs.Touch.{block_bytes}
+use Rattle.lo_model.specs.Held.{pieces}
+use Rattle.lo_model.specs.Touch.{page_bytes}
 
 -- An opening is a database as plain data: the number of blocks of its pool, the counter, the tables with their rows, and
 -- the objects as byte lists.
@@ -27,38 +28,33 @@ pub record Opening : Type 0 where
   pub objects : List ObjectBytes
 
 -- The database of an opening is given by edits of clock 0 that were committed at clock 0. An object is a creation, one
--- write for each of its blocks that is not all zero, and a cut to its size where the size is neither 0 nor the end of the
--- last block written. A row is a put whose values outside were moved out at clock 0.
+-- write for each of its pages that is not all zero, and a cut to its size where the size is neither 0 nor the end of the
+-- last page written. A row is a put whose values outside were moved out at clock 0.
 
--- the first numbers, from 0
-abbrev pub numbers_from : (first count : ℕ) → List ℕ
-numbers_from first zero = []
-numbers_from first (suc more) = first ∷ numbers_from (first + 1) more
+-- the bytes of a page
+abbrev pub page_of : List ℕ → (number : ℕ) → List ℕ
+page_of bytes b = take page_bytes (drop (page_bytes * b) bytes)
 
--- the bytes of a block
-abbrev pub block_of : List ℕ → (number : ℕ) → List ℕ
-block_of bytes b = take block_bytes (drop (block_bytes * b) bytes)
-
--- whether a block has a byte that is not 0
+-- whether a page has a byte that is not 0
 abbrev pub is_written : List ℕ → (number : ℕ) → Bool
-is_written bytes b = list_any (λ byte. not (byte == 0)) (block_of bytes b)
+is_written bytes b = list_any (λ byte. not (byte == 0)) (page_of bytes b)
 
--- the numbers of the blocks that have a byte that is not 0, ascending
-abbrev pub written_blocks : List ℕ → List ℕ
-written_blocks bytes = filter (is_written bytes) (numbers_from 0 ((length bytes + (block_bytes - 1)) / block_bytes))
+-- the numbers of the pages that have a byte that is not 0, ascending
+abbrev pub written_pages : List ℕ → List ℕ
+written_pages bytes = filter (is_written bytes) (range_with_len 0 (pieces page_bytes (length bytes)))
 
--- where the last of some blocks ends, or 0 where there are none
+-- where the last of some pages ends, or 0 where there are none
 abbrev pub end_of : (size : ℕ) → (end : ℕ) → List ℕ → ℕ
 end_of size end [] = end
-end_of size end (b ∷ bs) = end_of size (min (block_bytes * b + block_bytes) size) bs
+end_of size end (b ∷ bs) = end_of size (min (page_bytes * b + page_bytes) size) bs
 
 abbrev pub needs_cut : List ℕ → Bool
-needs_cut bytes = not ((length bytes == 0) || (length bytes == end_of (length bytes) 0 (written_blocks bytes)))
+needs_cut bytes = not ((length bytes == 0) || (length bytes == end_of (length bytes) 0 (written_pages bytes)))
 
 abbrev pub object_deeds : ObjectBytes → List Deed
 object_deeds object =
     Create object.oid
-    ∷ (map (λ b. Write object.oid (block_bytes * b) (block_of object.bytes b)) (written_blocks object.bytes)
+    ∷ (map (λ b. Write object.oid (page_bytes * b) (page_of object.bytes b)) (written_pages object.bytes)
     ++ (if needs_cut object.bytes then Cut object.oid (length object.bytes) ∷ [] else []))
 
 -- a row's id is the value of its first column

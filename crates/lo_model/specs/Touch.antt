@@ -1,61 +1,71 @@
+-- What edits touch, and who is in the way of whom. The unit of conflict between transactions is a page, which is 2048 bytes
+-- of one object, or a row.
 use Rattle.std.specs.Prelude.{◌≡◌, true, ℕ, ℤ, ◌+◌, ◌/◌, zero, suc, min, max, Bool, false, ◌==◌, ◌&&◌, nat_le, List, [], ◌∷◌, length, Option, Some, None, bytes_eq, if◌then◌else◌}
 use Rattle.lo_model.specs.declared.owner.Owner.{Owner}
 use Rattle.lo_model.specs.declared.owner.Owner.TheVariants.{Running, Committed}
 use Rattle.lo_model.specs.Edit.{Deed, Create, Write, Cut, Unlink, Put, Delete, Edit}
 use Rattle.lo_model.specs.Row.{is_row}
 
--- The unit of conflict between transactions is a block, which is 2048 bytes of one object, or a row. A write touches the
--- blocks of its bytes; a cut touches the block that the new end falls into and all above; a creation and an unlink touch
--- all blocks of the object; a put and a deletion touch their row; a rewrite of a table touches all its rows.
+-- A write touches the pages of its bytes; a cut touches the page that the new end falls into and all above; a creation and
+-- an unlink touch the whole object; a put and a deletion touch their row; a rewrite of a table touches all its rows.
 
--- where a block begins is its number times this
-abbrev pub block_bytes : ℕ
-block_bytes = 2048
+-- the bytes of a page. A page begins at its number times this
+abbrev pub page_bytes : ℕ
+page_bytes = 2048
 
 pub data Touched : Type 0 where
   Nothing : Touched
-  Blocks : (oid first last : ℕ) → Touched
-  BlocksFrom : (oid first : ℕ) → Touched
+  Pages : (oid first last : ℕ) → Touched
+  PagesFrom : (oid first : ℕ) → Touched
+  WholeObject : (oid : ℕ) → Touched
   RowOf : (table : List ℕ) (id : ℤ) → Touched
   RowsOf : (table : List ℕ) → Touched
 
--- the blocks of so many bytes from a place on: none of no bytes
-abbrev pub blocks_of : (oid at count : ℕ) → Touched
-blocks_of o at zero = Nothing
-blocks_of o at (suc more) = Blocks o (at / block_bytes) ((at + more) / block_bytes)
+-- the pages of so many bytes from an offset on: none of no bytes
+abbrev pub pages_of : (oid at count : ℕ) → Touched
+pages_of o at zero = Nothing
+pages_of o at (suc more) = Pages o (at / page_bytes) ((at + more) / page_bytes)
 
 abbrev pub touched : Deed → Touched
-touched (Create o) = BlocksFrom o 0
-touched (Write o at bytes) = blocks_of o at (length bytes)
-touched (Cut o size) = BlocksFrom o (size / block_bytes)
-touched (Unlink o) = BlocksFrom o 0
+touched (Create o) = WholeObject o
+touched (Write o at bytes) = pages_of o at (length bytes)
+touched (Cut o size) = PagesFrom o (size / page_bytes)
+touched (Unlink o) = WholeObject o
 touched (Put table id values stored) = RowOf table id
 touched (Delete table id) = RowOf table id
 
--- one block, or one row
-pub data Place : Type 0 where
-  Block : (oid number : ℕ) → Place
-  RowAt : (table : List ℕ) (id : ℤ) → Place
+-- what can be touched by itself: one page, what an object has beside its pages, or one row
+pub data Part : Type 0 where
+  Page : (oid number : ℕ) → Part
+  Object : (oid : ℕ) → Part
+  RowAt : (table : List ℕ) (id : ℤ) → Part
 
-abbrev pub covers : Touched → Place → Bool
-covers (Blocks o first last) (Block p b) = (o == p) && (nat_le first b && nat_le b last)
-covers (BlocksFrom o first) (Block p b) = (o == p) && nat_le first b
+abbrev pub covers : Touched → Part → Bool
+covers (Pages o first last) (Page p n) = (o == p) && (nat_le first n && nat_le n last)
+covers (PagesFrom o first) (Page p n) = (o == p) && nat_le first n
+covers (WholeObject o) (Page p n) = o == p
+covers (WholeObject o) (Object p) = o == p
 covers (RowOf t i) (RowAt u j) = is_row t i u j
 covers (RowsOf t) (RowAt u j) = bytes_eq t u
 covers _ _ = false
 
--- some place is covered by both
-pub record SharesPlace (a b : Touched) : Type 0 where
-  pub place : Place
-  pub first : covers a place ≡ true
-  pub second : covers b place ≡ true
+-- some part is covered by both
+pub record SharesPart (a b : Touched) : Type 0 where
+  pub part : Part
+  pub first : covers a part ≡ true
+  pub second : covers b part ≡ true
 
 -- the test for it
 abbrev pub meets : Touched → Touched → Bool
-meets (Blocks o f l) (Blocks p g m) = (o == p) && nat_le (max f g) (min l m)
-meets (Blocks o f l) (BlocksFrom p g) = (o == p) && nat_le (max f g) l
-meets (BlocksFrom o f) (Blocks p g m) = (o == p) && nat_le (max f g) m
-meets (BlocksFrom o f) (BlocksFrom p g) = o == p
+meets (Pages o f l) (Pages p g m) = (o == p) && nat_le (max f g) (min l m)
+meets (Pages o f l) (PagesFrom p g) = (o == p) && nat_le (max f g) l
+meets (Pages o f l) (WholeObject p) = (o == p) && nat_le f l
+meets (PagesFrom o f) (Pages p g m) = (o == p) && nat_le (max f g) m
+meets (PagesFrom o f) (PagesFrom p g) = o == p
+meets (PagesFrom o f) (WholeObject p) = o == p
+meets (WholeObject o) (Pages p g m) = (o == p) && nat_le g m
+meets (WholeObject o) (PagesFrom p g) = o == p
+meets (WholeObject o) (WholeObject p) = o == p
 meets (RowOf t i) (RowOf u j) = is_row t i u j
 meets (RowOf t i) (RowsOf u) = bytes_eq t u
 meets (RowsOf t) (RowOf u j) = bytes_eq t u
@@ -81,3 +91,8 @@ holder_of s wanted e = if meets wanted (touched e.deed) then other_session s e.o
 abbrev pub busy_with : (session : ℕ) → Touched → List (Edit Deed) → Option ℕ
 busy_with s wanted [] = None
 busy_with s wanted (e ∷ es) = lower_of (holder_of s wanted e) (busy_with s wanted es)
+
+-- A request that would make several edits is busy with the lowest session that holds something of any of them.
+abbrev pub busy_with_any : (session : ℕ) → List Touched → List (Edit Deed) → Option ℕ
+busy_with_any s [] edits = None
+busy_with_any s (wanted ∷ more) edits = lower_of (busy_with s wanted edits) (busy_with_any s more edits)

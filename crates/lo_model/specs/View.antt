@@ -30,3 +30,7 @@ sees_edit clock viewer e = sees clock viewer e.clock e.owner
 -- the edits that a view has, in the order made
 abbrev pub view : {D : Type 0} → (clock : ℕ) → Viewer → List (Edit D) → List (Edit D)
 view clock viewer edits = filter (sees_edit clock viewer) edits
+
+-- The current view of a session at a clock: what was committed before, and its own open edits.
+abbrev pub current_view : {D : Type 0} → (clock session : ℕ) → List (Edit D) → List (Edit D)
+current_view clock s edits = view clock (Whole s) edits
