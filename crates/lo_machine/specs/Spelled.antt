@@ -1,29 +1,81 @@
-use Rattle.std.specs.Prelude.{◌≡◌, ℕ, ℤ, pos, negsuc, ◌≤◌, length, Option, Some, None}
+-- The requests that a script can spell. The types of numbers have their ranges already.
+use Rattle.std.specs.Prelude.{◌≡◌, ◌≢◌, ℕ, ℤ, pos, negsuc, ◌<◌, ◌≤◌, Bool, true, false, not, ◌&&◌, ◌||◌, ◌==◌, List, [], ◌∷◌, length, map, Option, Some, None}
+use Rattle.std.specs.List.{AllByRecursion, list_any}
+use Rattle.lo_base.specs.declared.column.Column.{Column}
+use Rattle.lo_base.specs.declared.column.ColType.{ColType}
+use Rattle.lo_base.specs.declared.column.ColType.TheVariants as types
+use Rattle.lo_base.specs.declared.request.Assign.{Assign}
 use Rattle.lo_base.specs.declared.request.Request.{Request}
-use Rattle.lo_base.specs.declared.request.Request.TheVariants.{Begin, Commit, Rollback, Savepoint, Release, RollbackTo, LoCreate, LoPut, LoGet, Vacuum}
+use Rattle.lo_base.specs.declared.request.Request.TheVariants.{Begin, Commit, Rollback, Savepoint, Release, RollbackTo, LoCreat, LoCreate, LoOpen, LoClose, LoRead, LoWrite, LoLseek, LoLseek64, LoTell, LoTell64, LoTruncate, LoTruncate64, LoUnlink, LoGet, LoPut, LoFromBytea, CreateTable, Insert, Update, Delete, Get, Ids, Slice, Declare, Fetch, Close, Rewrite, Vacuum, Array, Load, Set, Elem, Show, Vacuumlo, Step, Finish}
+use Rattle.lo_base.specs.declared.value.Literal.{Literal}
+use Rattle.lo_base.specs.declared.value.Literal.TheVariants.{Null, Number, Bytes, ArrayText, Variable}
 use Rattle.lo_base.specs.Name.{IsName}
+use Rattle.toast_plan.specs.Columns.{IsTableColumns, AreDistinct, IsPlainIfFixed}
 
--- The requests that a script can spell so far: savepoints have names, objects are numbered from 1, a put begins at most
--- 8388608 bytes into its object and has at most as many, and a get asks for all bytes.
-abbrev pub put_limit : ℕ
-put_limit = 8388608
+-- the most bytes of a literal
+abbrev pub bytes_limit : ℕ
+bytes_limit = 16777216
 
-abbrev pub IsPutPlace : ℤ → Type 0
-IsPutPlace (pos at) = at ≤ put_limit
-IsPutPlace (negsuc n) = ⊥
+-- a token: at least one byte, and among them neither a space nor a line feed
+abbrev pub IsToken : List ℕ → Type 0
+IsToken text = (0 < length text) × (list_any (λ b. (b == 32) || (b == 10)) text ≡ false)
 
-abbrev pub IsAllBytes : ℤ → Option ℤ → Type 0
-IsAllBytes from None = from ≡ pos 0
-IsAllBytes from (Some length) = ⊥
+-- an array's text among values begins with a brace or a bracket
+abbrev pub OpensArray : List ℕ → Type 0
+OpensArray [] = ⊥
+OpensArray (b ∷ text) = ((b == 123) || (b == 91)) ≡ true
+
+abbrev pub IsLiteral : Literal → Type 0
+IsLiteral Null = Unit {0}
+IsLiteral (Number n) = Unit {0}
+IsLiteral (Bytes bytes) = length bytes ≤ bytes_limit
+IsLiteral (ArrayText text) = IsToken text × OpensArray text
+IsLiteral (Variable name) = IsName name
+
+-- new storages of columns: only names and storages are spelled
+abbrev pub names_of : List Column → List (List ℕ)
+names_of columns = map (λ (c : Column). c.name) columns
+
+abbrev pub AreStorages : List Column → Type 0
+AreStorages columns =
+    (0 < length columns) × AllByRecursion (λ (c : Column). IsName c.name × (c.kind ≡ types.Bytea)) columns × AreDistinct (names_of columns)
+
+abbrev pub AreChanges : List Assign → Type 0
+AreChanges changes =
+    (0 < length changes) × AllByRecursion (λ (a : Assign). IsName a.column × IsLiteral a.value) changes × AreDistinct (map (λ (a : Assign). a.column) changes)
+
+-- all bytes of an object are asked for from its beginning
+abbrev pub IsRange : ℤ → Option ℤ → Type 0
+IsRange from None = from ≡ pos 0
+IsRange from (Some length) = Unit {0}
+
+-- the greatest limit of a clean-up
+abbrev pub sweep_limit : ℕ
+sweep_limit = 2147483647
 
 abbrev pub IsSpelled : Request → Type 0
-IsSpelled Begin = Unit {0}
-IsSpelled Commit = Unit {0}
-IsSpelled Rollback = Unit {0}
 IsSpelled (Savepoint name) = IsName name
 IsSpelled (Release name) = IsName name
 IsSpelled (RollbackTo name) = IsName name
-IsSpelled Vacuum = Unit {0}
-IsSpelled (LoCreate o) = 1 ≤ o
-IsSpelled (LoPut o at bytes) = IsPutPlace at × (length bytes ≤ put_limit)
-IsSpelled (LoGet o from length) = IsAllBytes from length
+IsSpelled (LoWrite fd bytes) = length bytes ≤ bytes_limit
+IsSpelled (LoGet o from length) = IsRange from length
+IsSpelled (LoPut o at bytes) = length bytes ≤ bytes_limit
+IsSpelled (LoFromBytea o bytes) = length bytes ≤ bytes_limit
+IsSpelled (CreateTable name columns) = IsName name × IsTableColumns columns
+IsSpelled (Insert table values) = IsName table × (0 < length values) × AllByRecursion IsLiteral values
+IsSpelled (Update table i changes) = IsName table × AreChanges changes
+IsSpelled (Delete table i) = IsName table
+IsSpelled (Get table i) = IsName table
+IsSpelled (Ids table) = IsName table
+IsSpelled (Slice table i column from count) = IsName table × IsName column
+IsSpelled (Declare cursor table i) = IsName cursor × IsName table
+IsSpelled (Fetch cursor column from count) = IsName cursor × IsName column
+IsSpelled (Close cursor) = IsName cursor
+IsSpelled (Rewrite table storages) = IsName table × AreStorages storages
+IsSpelled (Array name text) = IsName name × IsToken text
+IsSpelled (Load name table i column) = IsName name × IsName table × IsName column
+IsSpelled (Set name sub value) = IsName name
+IsSpelled (Elem name sub) = IsName name
+IsSpelled (Show name) = IsName name
+IsSpelled (Vacuumlo dry limit) = limit ≤ sweep_limit
+IsSpelled _ = Unit {0}

@@ -1,204 +1,143 @@
--- What one request does.
-use Rattle.std.specs.Prelude.{ℕ, ℤ, pos, negsuc, ◌+◌, ◌-◌, Bool, true, false, not, ◌&&◌, List, [], ◌∷◌, ◌++◌, length, take, drop, Option, Some, None, if◌then◌else◌}
+-- What one request does: a row for each form, which is the terms of its refusals in order, and what is granted where none of
+-- them holds. The rows of a family stand together, each in the file of its family.
+use Rattle.std.specs.Prelude.{ℕ, pos, Bool, true, false, not, ◌&&◌, List, [], ◌∷◌, Option, Some, None, is_some}
 use Rattle.lo_base.specs.declared.reply.Reply.{Reply}
-use Rattle.lo_base.specs.declared.reply.Reply.TheVariants.{Word, Number, Content, Refused}
-use Rattle.lo_base.specs.declared.reply.Word.TheVariants as words
-use Rattle.lo_base.specs.declared.refusal.Cause.{Cause}
-use Rattle.lo_base.specs.declared.refusal.Cause.TheVariants.{Failed, NoBlock, InBlock, NoSavepoint, NoObject, ObjectExists, Busy}
+use Rattle.lo_base.specs.declared.refusal.Cause.TheVariants.{Failed}
+use Rattle.lo_base.specs.declared.refusal.Refusal.{Refusal}
 use Rattle.lo_base.specs.declared.request.Request.{Request}
-use Rattle.lo_base.specs.declared.request.Request.TheVariants.{Begin, Commit, Rollback, Savepoint, Release, RollbackTo, LoCreate, LoPut, LoGet, Vacuum}
-use Rattle.lo_model.specs.declared.owner.Owner.{Owner}
-use Rattle.lo_model.specs.declared.owner.Owner.TheVariants.{Running, Committed}
-use Rattle.lo_model.specs.declared.viewer.Viewer.TheVariants.{Whole}
-use Rattle.lo_model.specs.Clock.{clock_after}
-use Rattle.lo_model.specs.Database.{Database}
-use Rattle.lo_model.specs.Edit.{Deed, Create, Write, Edit, edits_by}
-use Rattle.lo_model.specs.Levels.{released, undone, committed, aborted}
-use Rattle.lo_model.specs.Object.{object_in}
-use Rattle.lo_model.specs.Touch.{touched, busy_with}
-use Rattle.lo_model.specs.View.{view}
-use Rattle.lo_machine.specs.Block.{Block, no_block, new_block, with_block, newest}
+use Rattle.lo_base.specs.declared.request.Request.TheVariants.{Begin, Commit, Rollback, Savepoint, Release, RollbackTo, LoCreat, LoCreate, LoOpen, LoClose, LoRead, LoWrite, LoLseek, LoLseek64, LoTell, LoTell64, LoTruncate, LoTruncate64, LoUnlink, LoGet, LoPut, LoFromBytea, CreateTable, Insert, Update, Delete, Get, Ids, Slice, Declare, Fetch, Close, Rewrite, Vacuum, Array, Load, Set, Elem, Show, Vacuumlo, Step, Finish}
+use Rattle.lo_machine.specs.ArrayRows.{array_refusals, array_granted, load_refusals, load_granted, set_refusals, set_granted, variable_refusals, elem_granted, show_granted}
+use Rattle.lo_machine.specs.DescriptorRows.{open_refusals, open_granted, close_refusals, close_granted, read_refusals, read_granted, write_refusals, write_granted, seek_refusals, seek_granted, tell_refusals, tell_granted, truncate_refusals, truncate_granted}
+use Rattle.lo_machine.specs.ObjectRows.{create_refusals, create_granted, unlink_refusals, unlink_granted, get_refusals, get_granted, put_refusals, put_granted}
+use Rattle.lo_machine.specs.State.{State, Outcome, session_of, state_with, refused}
+use Rattle.lo_machine.specs.SweepRows.{vacuumlo_refusals, vacuumlo_granted, act_of, act_refusals, act_granted, told_of, is_idle}
+use Rattle.lo_machine.specs.TableRows.{create_table_refusals, create_table_granted, insert_refusals, insert_granted, update_refusals, update_granted, delete_refusals, delete_granted, get_row_refusals, get_row_granted, ids_granted, slice_refusals, slice_granted, no_cursor, declare_refusals, declare_granted, fetch_refusals, fetch_granted, close_cursor_granted, rewrite_refusals, rewrite_granted, vacuum_granted}
+use Rattle.lo_machine.specs.Terms.{when, first_of, in_block, no_table}
+use Rattle.lo_machine.specs.TransactionRows.{begin_granted, commit_granted, rollback_granted, savepoint_refusals, saved, level_refusals, release_granted, rollback_to_granted}
 
--- The state between two advances is the number of advances made, the database, and each session's block.
-pub record State : Type 0 where
-  pub advances : ℕ
-  pub database : Database
-  pub blocks : (session : ℕ) → Block
+-- the terms of a request's refusals, in order
+abbrev pub refusals : State → (session : ℕ) → Request → List (Option Refusal)
+refusals st s Begin = []
+refusals st s Commit = []
+refusals st s Rollback = []
+refusals st s (Savepoint name) = savepoint_refusals st s
+refusals st s (Release name) = level_refusals st s name
+refusals st s (RollbackTo name) = level_refusals st s name
+refusals st s (LoCreat mode) = create_refusals st s 0 []
+refusals st s (LoCreate o) = create_refusals st s o []
+refusals st s (LoOpen o mode) = open_refusals st s o mode
+refusals st s (LoClose fd) = close_refusals st s fd
+refusals st s (LoRead fd length) = read_refusals st s fd length
+refusals st s (LoWrite fd bytes) = write_refusals st s fd bytes
+refusals st s (LoLseek fd offset whence) = seek_refusals false st s fd offset whence
+refusals st s (LoLseek64 fd offset whence) = seek_refusals true st s fd offset whence
+refusals st s (LoTell fd) = tell_refusals false st s fd
+refusals st s (LoTell64 fd) = tell_refusals true st s fd
+refusals st s (LoTruncate fd size) = truncate_refusals st s fd size
+refusals st s (LoTruncate64 fd size) = truncate_refusals st s fd size
+refusals st s (LoUnlink o) = unlink_refusals st s o
+refusals st s (LoGet o from length) = get_refusals st s o from length
+refusals st s (LoPut o at bytes) = put_refusals st s o at bytes
+refusals st s (LoFromBytea o bytes) = create_refusals st s o bytes
+refusals st s (CreateTable name columns) = create_table_refusals st s name
+refusals st s (Insert table values) = insert_refusals st s table values
+refusals st s (Update table i changes) = update_refusals st s table i changes
+refusals st s (Delete table i) = delete_refusals st s table i
+refusals st s (Get table i) = get_row_refusals st s table i
+refusals st s (Ids table) = no_table st table ∷ []
+refusals st s (Slice table i column from count) = slice_refusals st s table i column from count
+refusals st s (Declare cursor table i) = declare_refusals st s cursor table i
+refusals st s (Fetch cursor column from count) = fetch_refusals st s cursor column from count
+refusals st s (Close cursor) = no_cursor st s cursor ∷ []
+refusals st s (Rewrite table storages) = rewrite_refusals st s table storages
+refusals st s Vacuum = in_block st s ∷ []
+refusals st s (Array name text) = array_refusals text
+refusals st s (Load name table i column) = load_refusals st s table i column
+refusals st s (Set name sub value) = set_refusals st s name sub
+refusals st s (Elem name sub) = variable_refusals st s name
+refusals st s (Show name) = variable_refusals st s name
+refusals st s (Vacuumlo dry limit) = vacuumlo_refusals st s
+refusals st s Step = act_refusals st s (act_of st s)
+refusals st s Finish = act_refusals st s (act_of st s)
 
--- the clock of the next advance
-abbrev pub now : State → ℕ
-now st = clock_after st.advances
+-- what is granted where no term holds
+abbrev pub granted : State → (session : ℕ) → Request → Outcome
+granted st s Begin = begin_granted st s
+granted st s Commit = commit_granted st s
+granted st s Rollback = rollback_granted st s
+granted st s (Savepoint name) = saved st s name
+granted st s (Release name) = release_granted st s name
+granted st s (RollbackTo name) = rollback_to_granted st s name
+granted st s (LoCreat mode) = create_granted st s 0 []
+granted st s (LoCreate o) = create_granted st s o []
+granted st s (LoOpen o mode) = open_granted st s o mode
+granted st s (LoClose fd) = close_granted st s fd
+granted st s (LoRead fd length) = read_granted st s fd length
+granted st s (LoWrite fd bytes) = write_granted st s fd bytes
+granted st s (LoLseek fd offset whence) = seek_granted st s fd offset whence
+granted st s (LoLseek64 fd offset whence) = seek_granted st s fd offset whence
+granted st s (LoTell fd) = tell_granted st s fd
+granted st s (LoTell64 fd) = tell_granted st s fd
+granted st s (LoTruncate fd size) = truncate_granted st s fd size
+granted st s (LoTruncate64 fd size) = truncate_granted st s fd size
+granted st s (LoUnlink o) = unlink_granted st s o
+granted st s (LoGet o from length) = get_granted st s o from length
+granted st s (LoPut o at bytes) = put_granted st s o at bytes
+granted st s (LoFromBytea o bytes) = create_granted st s o bytes
+granted st s (CreateTable name columns) = create_table_granted st s name columns
+granted st s (Insert table values) = insert_granted st s table values
+granted st s (Update table i changes) = update_granted st s table i changes
+granted st s (Delete table i) = delete_granted st s table i
+granted st s (Get table i) = get_row_granted st s table i
+granted st s (Ids table) = ids_granted st s table
+granted st s (Slice table i column from count) = slice_granted st s table i column from count
+granted st s (Declare cursor table i) = declare_granted st s cursor table i
+granted st s (Fetch cursor column from count) = fetch_granted st s cursor column from count
+granted st s (Close cursor) = close_cursor_granted st s cursor
+granted st s (Rewrite table storages) = rewrite_granted st s table storages
+granted st s Vacuum = vacuum_granted st s
+granted st s (Array name text) = array_granted st s name text
+granted st s (Load name table i column) = load_granted st s name table i column
+granted st s (Set name sub value) = set_granted st s name sub value
+granted st s (Elem name sub) = elem_granted st s name sub
+granted st s (Show name) = show_granted st s name
+granted st s (Vacuumlo dry limit) = vacuumlo_granted st s dry limit
+granted st s Step = act_granted st s (act_of st s)
+granted st s Finish = act_granted st s (act_of st s)
 
--- the object in the current view of a session
-abbrev pub object_now : State → (session oid : ℕ) → Option (List ℕ)
-object_now st s o = object_in o (view (now st) (Whole s) st.database.edits)
+-- Which requests a failed block lets through: those that may end its failure, and the acts of a clean-up that is before its
+-- report, since the next of them is the rollback.
+abbrev pub may_go_on : State → (session : ℕ) → Request → Bool
+may_go_on st s Commit = true
+may_go_on st s Rollback = true
+may_go_on st s (RollbackTo name) = true
+may_go_on st s Step = not (is_idle (act_of st s))
+may_go_on st s Finish = not (is_idle (act_of st s))
+may_go_on st s _ = false
 
--- a request's reply, and what it leaves: all edits, and the session's block
-pub record Outcome : Type 0 where
-  pub reply : Reply
-  pub edits : List (Edit Deed)
-  pub block : Block
+abbrev pub failed : State → (session : ℕ) → Request → Option Refusal
+failed st s request = when ((session_of st s).transaction.failed && not (may_go_on st s request)) Failed (pos 0)
 
--- a reply that changes nothing
-abbrev pub answered : State → (session : ℕ) → Reply → Outcome
-answered st s reply = record { reply = reply; edits = st.database.edits; block = st.blocks s }
+-- the refusal of a request: the first term that holds, that of a failed block before all others
+abbrev pub refusal_of : State → (session : ℕ) → Request → Option Refusal
+refusal_of st s request = first_of (failed st s request ∷ refusals st s request)
 
--- A refusal changes nothing outside a block. Inside one it undoes the top level, and the block is failed.
-abbrev pub refused_in : State → (session : ℕ) → Reply → (levels : List (Option (List ℕ))) → Outcome
-refused_in st s reply [] = answered st s reply
-refused_in st s reply (level ∷ levels) = record {
-  reply = reply;
-  edits = undone s (length (level ∷ levels)) st.database.edits;
-  block = record { levels = level ∷ levels; failed = true };
-}
+abbrev pub granted_or_refused : State → (session : ℕ) → Request → Option Refusal → Outcome
+granted_or_refused st s request None = granted st s request
+granted_or_refused st s request (Some r) = refused st s r
 
-abbrev pub refused : State → (session : ℕ) → Cause → (subject : ℤ) → Outcome
-refused st s cause subject = refused_in st s (Refused (record { cause = cause; subject = subject })) (st.blocks s).levels
+-- a clean-up is told what became of its act
+abbrev pub told_sweep : State → (session : ℕ) → Request → (refused : Bool) → Outcome → Outcome
+told_sweep st s Step is_refused done = told_of st s (act_of st s) is_refused done
+told_sweep st s Finish is_refused done = told_of st s (act_of st s) is_refused done
+told_sweep st s _ is_refused done = done
 
--- Outside a block a request is a transaction of its own, so its edits are committed at once. Inside one they belong to
--- the top level.
-abbrev pub owner_in : (clock session : ℕ) → (levels : List (Option (List ℕ))) → Owner
-owner_in clock s [] = Committed clock
-owner_in clock s (level ∷ levels) = Running s (length (level ∷ levels))
-
--- a reply to a request that makes one edit
-abbrev pub edited : State → (session : ℕ) → Reply → Deed → Outcome
-edited st s reply deed = record {
-  reply = reply;
-  edits = st.database.edits ++ edits_by (now st) (owner_in (now st) s (st.blocks s).levels) (deed ∷ []);
-  block = st.blocks s;
-}
-
--- the same where no other session holds what the edit would touch, and else the refusal that names the one that does
-abbrev pub unless_held : State → (session : ℕ) → Reply → Deed → (holder : Option ℕ) → Outcome
-unless_held st s reply deed None = edited st s reply deed
-unless_held st s reply deed (Some holder) = refused st s Busy (pos holder)
-
-abbrev pub changed : State → (session : ℕ) → Reply → Deed → Outcome
-changed st s reply deed = unless_held st s reply deed (busy_with s (touched deed) st.database.edits)
-
--- lo_create: an object that is there is refused
-abbrev pub created : State → (session oid : ℕ) → Option (List ℕ) → Outcome
-created st s o None = changed st s (Number (pos o)) (Create o)
-created st s o (Some bytes) = refused st s ObjectExists (pos o)
-
--- a write of no bytes makes no edit
-abbrev pub written : State → (session oid at : ℕ) → (new : List ℕ) → Outcome
-written st s o at [] = answered st s (Word words.Ok)
-written st s o at (b ∷ bs) = changed st s (Word words.Ok) (Write o at (b ∷ bs))
-
-abbrev pub place_of : ℤ → ℕ
-place_of (pos n) = n
-place_of (negsuc n) = 0
-
--- lo_put: an object that is not there is refused
-abbrev pub put : State → (session oid at : ℕ) → (new : List ℕ) → Option (List ℕ) → Outcome
-put st s o at new None = refused st s NoObject (pos o)
-put st s o at new (Some bytes) = written st s o at new
-
--- at most so many bytes, or all
-abbrev pub limited : Option ℤ → List ℕ → List ℕ
-limited None bytes = bytes
-limited (Some length) bytes = take (place_of length) bytes
-
--- lo_get: the bytes from a place on
-abbrev pub got : State → (session oid from : ℕ) → (length : Option ℤ) → Option (List ℕ) → Outcome
-got st s o from length None = refused st s NoObject (pos o)
-got st s o from length (Some bytes) = answered st s (Content (limited length (drop from bytes)))
-
--- begin: inside a block it changes nothing
-abbrev pub begun : State → (session : ℕ) → (levels : List (Option (List ℕ))) → Outcome
-begun st s [] = record { reply = Word words.Begin; edits = st.database.edits; block = new_block }
-begun st s (level ∷ levels) = answered st s (Word words.Begin)
-
--- the end of a block, which leaves these edits
-abbrev pub ended : Reply → List (Edit Deed) → Outcome
-ended reply edits = record { reply = reply; edits = edits; block = no_block }
-
--- rollback: outside a block it changes nothing
-abbrev pub rolled_back : State → (session : ℕ) → (levels : List (Option (List ℕ))) → Outcome
-rolled_back st s [] = answered st s (Word words.Rollback)
-rolled_back st s (level ∷ levels) = ended (Word words.Rollback) (aborted s st.database.edits)
-
--- commit: outside a block it changes nothing, and that of a failed block is a rollback
-abbrev pub committed_in : State → (session : ℕ) → (levels : List (Option (List ℕ))) → (failed : Bool) → Outcome
-committed_in st s [] failed = answered st s (Word words.Commit)
-committed_in st s (level ∷ levels) true = rolled_back st s (level ∷ levels)
-committed_in st s (level ∷ levels) false = ended (Word words.Commit) (committed s (now st) st.database.edits)
-
--- savepoint
-abbrev pub saved : State → (session : ℕ) → (name : List ℕ) → (levels : List (Option (List ℕ))) → Outcome
-saved st s name [] = refused st s NoBlock (pos 0)
-saved st s name (level ∷ levels) = record {
-  reply = Word words.Savepoint;
-  edits = st.database.edits;
-  block = record { levels = (level ∷ levels) ++ Some name ∷ []; failed = (st.blocks s).failed };
-}
-
--- why no savepoint is found: there is no block, or no level of it has the name
-abbrev pub no_savepoint : (levels : List (Option (List ℕ))) → Cause
-no_savepoint [] = NoBlock
-no_savepoint (level ∷ levels) = NoSavepoint
-
--- release of the newest level with a name: it and all above it become one with the level below it
-abbrev pub released_from : State → (session : ℕ) → Option ℕ → Outcome
-released_from st s None = refused st s (no_savepoint (st.blocks s).levels) (pos 0)
-released_from st s (Some k) = record {
-  reply = Word words.Release;
-  edits = released s k st.database.edits;
-  block = record { levels = take (k - 1) (st.blocks s).levels; failed = (st.blocks s).failed };
-}
-
--- rollback to the newest level with a name: it and all above it are undone, it stays as an empty level, and the block is
--- not failed
-abbrev pub undone_from : State → (session : ℕ) → Option ℕ → Outcome
-undone_from st s None = refused st s (no_savepoint (st.blocks s).levels) (pos 0)
-undone_from st s (Some k) = record {
-  reply = Word words.Rollback;
-  edits = undone s k st.database.edits;
-  block = record { levels = take k (st.blocks s).levels; failed = false };
-}
-
--- vacuum: inside a block it is refused. So far it has nothing to do
-abbrev pub vacuumed : State → (session : ℕ) → (levels : List (Option (List ℕ))) → Outcome
-vacuumed st s [] = answered st s (Word words.Vacuum)
-vacuumed st s (level ∷ levels) = refused st s InBlock (pos 0)
-
--- what a request does that a failed block lets through
-abbrev pub served : State → (session : ℕ) → Request → Outcome
-served st s Begin = begun st s (st.blocks s).levels
-served st s Commit = committed_in st s (st.blocks s).levels (st.blocks s).failed
-served st s Rollback = rolled_back st s (st.blocks s).levels
-served st s (Savepoint name) = saved st s name (st.blocks s).levels
-served st s (Release name) = released_from st s (newest name (st.blocks s).levels)
-served st s (RollbackTo name) = undone_from st s (newest name (st.blocks s).levels)
-served st s (LoCreate o) = created st s o (object_now st s o)
-served st s (LoPut o at bytes) = put st s o (place_of at) bytes (object_now st s o)
-served st s (LoGet o from length) = got st s o (place_of from) length (object_now st s o)
-served st s Vacuum = vacuumed st s (st.blocks s).levels
-
--- whether a request may end a block's failure
-abbrev pub may_recover : Request → Bool
-may_recover Commit = true
-may_recover Rollback = true
-may_recover (RollbackTo name) = true
-may_recover _ = false
-
--- In a failed block every request is refused, but those that may end its failure.
 abbrev pub outcome : State → (session : ℕ) → Request → Outcome
 outcome st s request =
-    if (st.blocks s).failed && not (may_recover request) then refused st s Failed (pos 0) else served st s request
+    told_sweep st s request (is_some (refusal_of st s request)) (granted_or_refused st s request (refusal_of st s request))
 
 abbrev pub reply_to : State → (session : ℕ) → Request → Reply
 reply_to st s request = (outcome st s request).reply
-
--- the state after an outcome
-abbrev pub state_with : State → (session : ℕ) → Outcome → State
-state_with st s done = record {
-  advances = st.advances + 1;
-  database = record { edits = done.edits; tables = st.database.tables; counter = st.database.counter };
-  blocks = with_block s done.block st.blocks;
-}
 
 abbrev pub state_after : State → (session : ℕ) → Request → State
 state_after st s request = state_with st s (outcome st s request)
