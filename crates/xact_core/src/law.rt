@@ -1,4 +1,4 @@
-ghost use Rattle.std.specs.Prelude.{◌≡◌, ℕ, ◌<◌, ◌≤◌, false, List, [], ◌∷◌, ◌++◌};
+ghost use Rattle.std.specs.Prelude.{◌≡◌, ℕ, ◌<◌, ◌≤◌, false, List, [], ◌∷◌, ◌++◌, Contains};
 ghost use Rattle.lo_model.specs.declared.owner.Owner.{Owner};
 ghost use Rattle.lo_model.specs.declared.owner.Owner.TheVariants.{Running};
 ghost use Rattle.lo_model.specs.declared.viewer.Viewer.{Viewer};
@@ -6,7 +6,10 @@ ghost use Rattle.lo_model.specs.declared.viewer.Viewer.TheVariants.{Nobody, Whol
 ghost use Rattle.lo_model.specs.Edit.{Edit, deeds};
 ghost use Rattle.lo_model.specs.Levels.{released, undone, committed};
 ghost use Rattle.lo_model.specs.View.{view};
+ghost use Rattle.xact_core.specs.declared.snapshot.Snapshot.{Snapshot};
+ghost use Rattle.xact_core.specs.Kept.{kept_views, KeptBy};
 ghost use Rattle.xact_core.specs.Laws.{looks_as, before_release, before_undo};
+ghost use Rattle.xact_core.specs.Transactions.{Transactions};
 
 /// What the ends of levels and transactions do to views of lists of edits with any deeds, in the words of the model. The
 /// calls of `Xacts` say the same of each stamp.
@@ -23,4 +26,11 @@ pub fn laws_of_views<D>()
     ensures hidden { (s l made clock : ℕ) (viewer : Viewer) (deed : D) (edits : List (Edit D)) → looks_as s viewer ≡ false → view clock viewer (edits ++ record { clock = made; owner = Running s l; deed = deed } ∷ []) ≡ view clock viewer edits }
     // An edit that is made at a view's clock or later is not in it.
     ensures later { (made clock : ℕ) (viewer : Viewer) (owner : Owner) (deed : D) (edits : List (Edit D)) → clock ≤ made → view clock viewer (edits ++ record { clock = made; owner = owner; deed = deed } ∷ []) ≡ view clock viewer edits }
+{}
+
+/// Which views are kept: nobody's at the clock above the present one, a session's whole one and one below each of its
+/// levels at that clock, and those that are held.
+pub fn laws_of_kept_views()
+    ensures only { (x : Transactions) (v : Snapshot) → Contains (kept_views x) v → KeptBy x v }
+    ensures all { (x : Transactions) (v : Snapshot) → KeptBy x v → Contains (kept_views x) v }
 {}
