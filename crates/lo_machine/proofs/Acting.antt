@@ -11,40 +11,40 @@ use Rattle.lo_model.specs.declared.owner.Owner.{Owner}
 use Rattle.lo_model.specs.Edit.{Deed, Edit}
 use Rattle.lo_model.specs.Levels.{committed}
 use Rattle.lo_machine.specs.declared.engine.Engine.{Engine}
-use Rattle.lo_machine.specs.Block.{Block, new_block, no_block, newest}
+use Rattle.lo_model.specs.Transaction.{Transaction, new_transaction, no_transaction, newest}
 use Rattle.lo_machine.specs.Blocks.{block_of, Becomes, Fails}
 use Rattle.lo_machine.specs.Engine.{KeepsAt, Leaves, Does}
-use Rattle.lo_machine.specs.Step.{State, Outcome, now, answered, refused, refused_in, begun, rolled_back, committed_in, saved, no_savepoint, released_from, undone_from, vacuumed, served}
+use Rattle.lo_machine.specs.Plain.{PlainState, PlainOutcome, now, answered, refused, refused_in, begun, rolled_back, committed_in, saved, no_savepoint, released_from, undone_from, vacuumed, served}
 use Rattle.lo_machine.proofs.Keeping.{keeps_turned, keeps_still}
 use Rattle.lo_machine.proofs.Standing.{turned, turned-same, turned-undo, turned-release, turned-commit}
 use Rattle.xact_core.specs.Ends.{same, release, undo, commit_at}
 use Rattle.xact_core.specs.Transactions.{levels_of}
 
 -- a session's levels and failure are those of the states that the engine stands for
-pub levels_now : (e : Engine) (st : State) (s : ℕ) → KeepsAt e st → 1 ≤ s → s ≤ 16 → (st.blocks s).levels ≡ levels_of e.blocks.xacts s
-levels_now e st s keeps low high = ap (λ (b : Block). b.levels) (sym (keeps.sessions s low high))
+pub levels_now : (e : Engine) (st : PlainState) (s : ℕ) → KeepsAt e st → 1 ≤ s → s ≤ 16 → (st.blocks s).levels ≡ levels_of e.blocks.xacts s
+levels_now e st s keeps low high = ap (λ (b : Transaction). b.levels) (sym (keeps.sessions s low high))
 
-pub failed_now : (e : Engine) (st : State) (s : ℕ) → KeepsAt e st → 1 ≤ s → s ≤ 16 → (st.blocks s).failed ≡ (block_of e.blocks s).failed
-failed_now e st s keeps low high = ap (λ (b : Block). b.failed) (sym (keeps.sessions s low high))
+pub failed_now : (e : Engine) (st : PlainState) (s : ℕ) → KeepsAt e st → 1 ≤ s → s ≤ 16 → (st.blocks s).failed ≡ (block_of e.blocks s).failed
+failed_now e st s keeps low high = ap (λ (b : Transaction). b.failed) (sym (keeps.sessions s low high))
 
-pub does_as : (outcome outcome' : State → Outcome) (old new : Engine) (s : ℕ) (reply : Reply) → ((st : State) → KeepsAt old st → outcome' st ≡ outcome st) → Does old new s outcome reply → Does old new s outcome' reply
+pub does_as : (outcome outcome' : PlainState → PlainOutcome) (old new : Engine) (s : ℕ) (reply : Reply) → ((st : PlainState) → KeepsAt old st → outcome' st ≡ outcome st) → Does old new s outcome reply → Does old new s outcome' reply
 does_as outcome outcome' old new s reply is does = record {
-  does = λ st keeps. subst (λ (done : Outcome). (reply ≡ done.reply) × Leaves new st s done) (sym (is st keeps)) (does.does st keeps);
+  does = λ st keeps. subst (λ (done : PlainOutcome). (reply ≡ done.reply) × Leaves new st s done) (sym (is st keeps)) (does.does st keeps);
   time = does.time;
 }
 
 -- nothing was done
-pub does_nothing : (outcome : State → Outcome) (e : Engine) (s : ℕ) (reply : Reply) → ((st : State) → KeepsAt e st → outcome st ≡ answered st s reply) → Does e e s outcome reply
+pub does_nothing : (outcome : PlainState → PlainOutcome) (e : Engine) (s : ℕ) (reply : Reply) → ((st : PlainState) → KeepsAt e st → outcome st ≡ answered st s reply) → Does e e s outcome reply
 does_nothing outcome e s reply is = does_as (λ st. answered st s reply) outcome e e s reply is record {
   does = λ st keeps. (refl, keeps_still e s (now st) st.database.edits st.blocks keeps);
   time = refl;
 }
 
-abbrev left : Reply → Block → List (Edit Deed) → Outcome
+abbrev left : Reply → Transaction → List (Edit Deed) → PlainOutcome
 left reply block edits = record { reply = reply; edits = edits; block = block }
 
 -- each owner was turned, and the session has another block
-does_turn : (turn : Owner → Option Owner) (block : Block) (outcome : State → Outcome) (old new : Engine) (s : ℕ) (reply : Reply) → Becomes turn s block old.blocks new.blocks → new.history ≡ old.history → ((st : State) → KeepsAt old st → outcome st ≡ left reply block (turned turn st.database.edits)) → Does old new s outcome reply
+does_turn : (turn : Owner → Option Owner) (block : Transaction) (outcome : PlainState → PlainOutcome) (old new : Engine) (s : ℕ) (reply : Reply) → Becomes turn s block old.blocks new.blocks → new.history ≡ old.history → ((st : PlainState) → KeepsAt old st → outcome st ≡ left reply block (turned turn st.database.edits)) → Does old new s outcome reply
 does_turn turn block outcome old new s reply becomes history is = does_as (λ st. left reply block (turned turn st.database.edits)) outcome old new s reply is record {
   does = λ st keeps. (refl, keeps_turned turn old new s (now st) block st.database.edits (turned turn st.database.edits) st.blocks keeps becomes history refl);
   time = becomes.clock;
@@ -71,10 +71,10 @@ does_refuse old new s cause subject fails rest = by_levels (levels_of old.blocks
 
 -- A request that depends on the session's levels: outside a block, and inside one.
 
-outside : (outcome : State → Outcome) (by : State → List (Option (List ℕ)) → Outcome) (e : Engine) (s : ℕ) → 1 ≤ s → s ≤ 16 → levels_of e.blocks.xacts s ≡ [] → ((st : State) → outcome st ≡ by st (st.blocks s).levels) → (st : State) → KeepsAt e st → outcome st ≡ by st []
+outside : (outcome : PlainState → PlainOutcome) (by : PlainState → List (Option (List ℕ)) → PlainOutcome) (e : Engine) (s : ℕ) → 1 ≤ s → s ≤ 16 → levels_of e.blocks.xacts s ≡ [] → ((st : PlainState) → outcome st ≡ by st (st.blocks s).levels) → (st : PlainState) → KeepsAt e st → outcome st ≡ by st []
 outside outcome by e s low high none is st keeps = is st ∙ ap (by st) (levels_now e st s keeps low high ∙ none)
 
-inside : (outcome : State → Outcome) (by : State → List (Option (List ℕ)) → Outcome) (inner : State → Outcome) (e : Engine) (s : ℕ) → 1 ≤ s → s ≤ 16 → 0 < length (levels_of e.blocks.xacts s) → ((st : State) → outcome st ≡ by st (st.blocks s).levels) → ((st : State) (level : Option (List ℕ)) (levels : List (Option (List ℕ))) → levels_of e.blocks.xacts s ≡ level ∷ levels → by st (level ∷ levels) ≡ inner st) → (st : State) → KeepsAt e st → outcome st ≡ inner st
+inside : (outcome : PlainState → PlainOutcome) (by : PlainState → List (Option (List ℕ)) → PlainOutcome) (inner : PlainState → PlainOutcome) (e : Engine) (s : ℕ) → 1 ≤ s → s ≤ 16 → 0 < length (levels_of e.blocks.xacts s) → ((st : PlainState) → outcome st ≡ by st (st.blocks s).levels) → ((st : PlainState) (level : Option (List ℕ)) (levels : List (Option (List ℕ))) → levels_of e.blocks.xacts s ≡ level ∷ levels → by st (level ∷ levels) ≡ inner st) → (st : PlainState) → KeepsAt e st → outcome st ≡ inner st
 inside outcome by inner e s low high some is next st keeps = by_levels (levels_of e.blocks.xacts s) refl
   where
     by_levels : (levels : List (Option (List ℕ))) → levels_of e.blocks.xacts s ≡ levels → outcome st ≡ inner st
@@ -87,11 +87,11 @@ pub begins_again : (e : Engine) (s : ℕ) → 1 ≤ s → s ≤ 16 → 0 < lengt
 begins_again e s low high some = does_nothing (λ st. served st s Begin) e s (Word words.Begin)
     (inside (λ st. served st s Begin) (λ st levels. begun st s levels) (λ st. answered st s (Word words.Begin)) e s low high some (λ st. refl) (λ st level levels is. refl))
 
-pub begins : (old new : Engine) (s : ℕ) → levels_of old.blocks.xacts s ≡ [] → Becomes same s new_block old.blocks new.blocks → new.history ≡ old.history → Does old new s (λ st. served st s Begin) (Word words.Begin)
-begins old new s none becomes history = does_turn same new_block (λ st. served st s Begin) old new s (Word words.Begin) becomes history
+pub begins : (old new : Engine) (s : ℕ) → levels_of old.blocks.xacts s ≡ [] → Becomes same s new_transaction old.blocks new.blocks → new.history ≡ old.history → Does old new s (λ st. served st s Begin) (Word words.Begin)
+begins old new s none becomes history = does_turn same new_transaction (λ st. served st s Begin) old new s (Word words.Begin) becomes history
     (λ st keeps.
     outside (λ st. served st s Begin) (λ st levels. begun st s levels) old s becomes.low becomes.high none (λ st. refl) st keeps
-    ∙ ap (left (Word words.Begin) new_block) (sym (turned-same st.database.edits)))
+    ∙ ap (left (Word words.Begin) new_transaction) (sym (turned-same st.database.edits)))
 
 -- rollback
 
@@ -99,10 +99,10 @@ pub rolls_nothing : (e : Engine) (s : ℕ) → 1 ≤ s → s ≤ 16 → levels_o
 rolls_nothing e s low high none = does_nothing (λ st. served st s Rollback) e s (Word words.Rollback)
     (outside (λ st. served st s Rollback) (λ st levels. rolled_back st s levels) e s low high none (λ st. refl))
 
-pub rolls_back : (old new : Engine) (s : ℕ) → 0 < length (levels_of old.blocks.xacts s) → Becomes (undo s 1) s no_block old.blocks new.blocks → new.history ≡ old.history → Does old new s (λ st. served st s Rollback) (Word words.Rollback)
-rolls_back old new s some becomes history = does_turn (undo s 1) no_block (λ st. served st s Rollback) old new s (Word words.Rollback) becomes history
-    (inside (λ st. served st s Rollback) (λ st levels. rolled_back st s levels) (λ st. left (Word words.Rollback) no_block (turned (undo s 1) st.database.edits)) old s becomes.low becomes.high some (λ st. refl)
-    (λ st level levels is. ap (left (Word words.Rollback) no_block) (sym (turned-undo s 1 st.database.edits))))
+pub rolls_back : (old new : Engine) (s : ℕ) → 0 < length (levels_of old.blocks.xacts s) → Becomes (undo s 1) s no_transaction old.blocks new.blocks → new.history ≡ old.history → Does old new s (λ st. served st s Rollback) (Word words.Rollback)
+rolls_back old new s some becomes history = does_turn (undo s 1) no_transaction (λ st. served st s Rollback) old new s (Word words.Rollback) becomes history
+    (inside (λ st. served st s Rollback) (λ st levels. rolled_back st s levels) (λ st. left (Word words.Rollback) no_transaction (turned (undo s 1) st.database.edits)) old s becomes.low becomes.high some (λ st. refl)
+    (λ st level levels is. ap (left (Word words.Rollback) no_transaction) (sym (turned-undo s 1 st.database.edits))))
 
 -- commit
 
@@ -111,7 +111,7 @@ commits_nothing e s low high none = does_nothing (λ st. served st s Commit) e s
     (outside (λ st. served st s Commit) (λ st levels. committed_in st s levels (st.blocks s).failed) e s low high none (λ st. refl))
 
 -- a block whose failure is known
-with_mark : (st : State) (s : ℕ) (level : Option (List ℕ)) (levels : List (Option (List ℕ))) (mark : Bool) → (st.blocks s).failed ≡ mark → committed_in st s (level ∷ levels) (st.blocks s).failed ≡ committed_in st s (level ∷ levels) mark
+with_mark : (st : PlainState) (s : ℕ) (level : Option (List ℕ)) (levels : List (Option (List ℕ))) (mark : Bool) → (st.blocks s).failed ≡ mark → committed_in st s (level ∷ levels) (st.blocks s).failed ≡ committed_in st s (level ∷ levels) mark
 with_mark st s level levels mark is = ap (committed_in st s (level ∷ levels)) is
 
 pub commits_failed : (old new : Engine) (s : ℕ) (reply : Reply) → 1 ≤ s → s ≤ 16 → 0 < length (levels_of old.blocks.xacts s) → (block_of old.blocks s).failed ≡ true → Does old new s (λ st. served st s Rollback) reply → Does old new s (λ st. served st s Commit) reply
@@ -122,15 +122,15 @@ commits_failed old new s reply low high some failed does = does_as (λ st. serve
     ∙ sym (inside (λ st. served st s Rollback) (λ st levels. rolled_back st s levels) (λ st. committed_in st s (levels_of old.blocks.xacts s) true) old s low high some (λ st. refl) (λ st level levels is. ap (λ (names : List (Option (List ℕ))). committed_in st s names true) (sym is)) st keeps)))
     does
 
-pub commits : (old new : Engine) (s : ℕ) → 0 < length (levels_of old.blocks.xacts s) → (block_of old.blocks s).failed ≡ false → Becomes (commit_at s old.blocks.xacts.clock) s no_block old.blocks new.blocks → new.history ≡ old.history → Does old new s (λ st. served st s Commit) (Word words.Commit)
-commits old new s some unfailed becomes history = does_turn (commit_at s old.blocks.xacts.clock) no_block (λ st. served st s Commit) old new s (Word words.Commit) becomes history
+pub commits : (old new : Engine) (s : ℕ) → 0 < length (levels_of old.blocks.xacts s) → (block_of old.blocks s).failed ≡ false → Becomes (commit_at s old.blocks.xacts.clock) s no_transaction old.blocks new.blocks → new.history ≡ old.history → Does old new s (λ st. served st s Commit) (Word words.Commit)
+commits old new s some unfailed becomes history = does_turn (commit_at s old.blocks.xacts.clock) no_transaction (λ st. served st s Commit) old new s (Word words.Commit) becomes history
     (λ st keeps.
     inside (λ st. served st s Commit) (λ st levels. committed_in st s levels (st.blocks s).failed) (λ st. committed_in st s (levels_of old.blocks.xacts s) (st.blocks s).failed) old s becomes.low becomes.high some (λ st. refl) (λ st level levels is. ap (λ (names : List (Option (List ℕ))). committed_in st s names (st.blocks s).failed) (sym is)) st keeps
     ∙ (ap (committed_in st s (levels_of old.blocks.xacts s)) (failed_now old st s keeps becomes.low becomes.high ∙ unfailed)
     ∙ (committed_open st (levels_of old.blocks.xacts s) some
-    ∙ ap (left (Word words.Commit) no_block) (ap (λ (n : ℕ). committed s n st.database.edits) (sym keeps.time) ∙ sym (turned-commit s old.blocks.xacts.clock st.database.edits)))))
+    ∙ ap (left (Word words.Commit) no_transaction) (ap (λ (n : ℕ). committed s n st.database.edits) (sym keeps.time) ∙ sym (turned-commit s old.blocks.xacts.clock st.database.edits)))))
   where
-    committed_open : (st : State) (levels : List (Option (List ℕ))) → 0 < length levels → committed_in st s levels false ≡ left (Word words.Commit) no_block (committed s (now st) st.database.edits)
+    committed_open : (st : PlainState) (levels : List (Option (List ℕ))) → 0 < length levels → committed_in st s levels false ≡ left (Word words.Commit) no_transaction (committed s (now st) st.database.edits)
     committed_open st [] more = absurd (omega (arith, more))
     committed_open st (level ∷ levels) more = refl
 
@@ -147,10 +147,10 @@ saves old new s name some becomes history = does_turn same block (λ st. served 
     ∙ (ap (λ (mark : Bool). left (Word words.Savepoint) (named (levels_of old.blocks.xacts s) mark) st.database.edits) (failed_now old st s keeps becomes.low becomes.high)
     ∙ ap (left (Word words.Savepoint) block) (sym (turned-same st.database.edits))))
   where
-    named : List (Option (List ℕ)) → Bool → Block
+    named : List (Option (List ℕ)) → Bool → Transaction
     named levels mark = record { levels = levels ++ Some name ∷ []; failed = mark }
 
-    block : Block
+    block : Transaction
     block = named (levels_of old.blocks.xacts s) (block_of old.blocks s).failed
 
 -- release and rollback to a savepoint
@@ -160,15 +160,15 @@ pub refused_savepoint : (old new : Engine) (s : ℕ) (cause : Cause) (reply : Re
 refused_savepoint old new s cause reply low high is = does_as (λ st. refused st s cause (pos 0)) (λ st. refused st s (no_savepoint (st.blocks s).levels) (pos 0)) old new s reply
     (λ st keeps. ap (λ (c : Cause). refused st s c (pos 0)) (ap no_savepoint (levels_now old st s keeps low high) ∙ sym is))
 
-pub no_block_cause : (levels : List (Option (List ℕ))) → levels ≡ [] → NoBlock ≡ no_savepoint levels
-no_block_cause levels none = ap no_savepoint (sym none)
+pub no_transaction_cause : (levels : List (Option (List ℕ))) → levels ≡ [] → NoBlock ≡ no_savepoint levels
+no_transaction_cause levels none = ap no_savepoint (sym none)
 
 pub no_name_cause : (levels : List (Option (List ℕ))) → 0 < length levels → NoSavepoint ≡ no_savepoint levels
 no_name_cause [] some = absurd (omega (arith, some))
 no_name_cause (level ∷ levels) some = refl
 
 -- the newest level with the name, as the engine finds it
-at_newest : (by : State → Option ℕ → Outcome) (e : Engine) (s : ℕ) (name : List ℕ) (found : Option ℕ) → 1 ≤ s → s ≤ 16 → newest name (levels_of e.blocks.xacts s) ≡ found → (st : State) → KeepsAt e st → by st (newest name (st.blocks s).levels) ≡ by st found
+at_newest : (by : PlainState → Option ℕ → PlainOutcome) (e : Engine) (s : ℕ) (name : List ℕ) (found : Option ℕ) → 1 ≤ s → s ≤ 16 → newest name (levels_of e.blocks.xacts s) ≡ found → (st : PlainState) → KeepsAt e st → by st (newest name (st.blocks s).levels) ≡ by st found
 at_newest by e s name found low high is st keeps = ap (by st) (ap (newest name) (levels_now e st s keeps low high) ∙ is)
 
 pub releases_not : (old new : Engine) (s : ℕ) (name : List ℕ) (reply : Reply) → 1 ≤ s → s ≤ 16 → newest name (levels_of old.blocks.xacts s) ≡ None → Does old new s (λ st. refused st s (no_savepoint (st.blocks s).levels) (pos 0)) reply → Does old new s (λ st. served st s (Release name)) reply
@@ -183,20 +183,20 @@ pub releases : (old new : Engine) (s level : ℕ) (name : List ℕ) → newest n
 releases old new s level name is becomes history = does_turn (release s level) (record { levels = take (level - 1) (levels_of old.blocks.xacts s); failed = (block_of old.blocks s).failed }) (λ st. served st s (Release name)) old new s (Word words.Release) becomes history
     (λ st keeps.
     at_newest (λ st. released_from st s) old s name (Some level) becomes.low becomes.high is st keeps
-    ∙ (ap (λ (block : Block). left (Word words.Release) (record { levels = take (level - 1) block.levels; failed = block.failed }) (released_edits st)) (sym (keeps.sessions s becomes.low becomes.high))
+    ∙ (ap (λ (block : Transaction). left (Word words.Release) (record { levels = take (level - 1) block.levels; failed = block.failed }) (released_edits st)) (sym (keeps.sessions s becomes.low becomes.high))
     ∙ ap (left (Word words.Release) (record { levels = take (level - 1) (levels_of old.blocks.xacts s); failed = (block_of old.blocks s).failed })) (sym (turned-release s level st.database.edits))))
   where
-    released_edits : State → List (Edit Deed)
+    released_edits : PlainState → List (Edit Deed)
     released_edits st = (released_from st s (Some level)).edits
 
 pub rolls_to : (old new : Engine) (s level : ℕ) (name : List ℕ) → newest name (levels_of old.blocks.xacts s) ≡ Some level → Becomes (undo s level) s (record { levels = take level (levels_of old.blocks.xacts s); failed = false }) old.blocks new.blocks → new.history ≡ old.history → Does old new s (λ st. served st s (RollbackTo name)) (Word words.Rollback)
 rolls_to old new s level name is becomes history = does_turn (undo s level) (record { levels = take level (levels_of old.blocks.xacts s); failed = false }) (λ st. served st s (RollbackTo name)) old new s (Word words.Rollback) becomes history
     (λ st keeps.
     at_newest (λ st. undone_from st s) old s name (Some level) becomes.low becomes.high is st keeps
-    ∙ (ap (λ (block : Block). left (Word words.Rollback) (record { levels = take level block.levels; failed = false }) (undone_edits st)) (sym (keeps.sessions s becomes.low becomes.high))
+    ∙ (ap (λ (block : Transaction). left (Word words.Rollback) (record { levels = take level block.levels; failed = false }) (undone_edits st)) (sym (keeps.sessions s becomes.low becomes.high))
     ∙ ap (left (Word words.Rollback) (record { levels = take level (levels_of old.blocks.xacts s); failed = false })) (sym (turned-undo s level st.database.edits))))
   where
-    undone_edits : State → List (Edit Deed)
+    undone_edits : PlainState → List (Edit Deed)
     undone_edits st = (undone_from st s (Some level)).edits
 
 -- vacuum

@@ -6,5 +6,6 @@ pub mod Laying
 pub mod Naming
 pub mod Orders
 pub mod Replaying
+pub mod Serving
 pub mod Standing
 pub mod Stepping

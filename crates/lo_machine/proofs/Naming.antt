@@ -4,7 +4,7 @@ use Rattle.std.specs.Prelude.{slice_get, bytes_eq}
 use Rattle.std.proofs.lemmas.Slice.Eq.{bytes_eq-Decides}
 use Rattle.std.proofs.lemmas.Option.{same_Some, slice_get_within}
 use Rattle.std.specs.Option.{MatchOption, IfSome}
-use Rattle.lo_machine.specs.Block.{is_named, newest_above, newest}
+use Rattle.lo_model.specs.Transaction.{is_named, newest_above, newest}
 use Rattle.xact_core.specs.Transactions.{HasNo, IsNewest}
 
 named_at : (name : List ℕ) (level : Option (List ℕ)) → level ≡ Some name → is_named name level ≡ true

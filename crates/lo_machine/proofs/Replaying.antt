@@ -13,7 +13,7 @@ use Rattle.lo_machine.specs.Program.{program_of}
 use Rattle.lo_machine.specs.Replay.{Play, Replays, Advances, moment_of}
 use Rattle.lo_machine.specs.Run.{Moment, start, next_line, one_more, moment_after, replies_at, replies_from, end_from, replies_of}
 use Rattle.lo_machine.specs.Running.{play_of, IsReplay}
-use Rattle.lo_machine.specs.Step.{reply_to, state_after}
+use Rattle.lo_machine.specs.Plain.{reply_to, state_after}
 
 end_more : (programs : List (List Request)) (m : Moment) (schedule : List ℕ) (s : ℕ) → end_from programs m (schedule ++ s ∷ []) ≡ moment_after (end_from programs m schedule) s (next_line programs (end_from programs m schedule) s)
 end_more programs m [] s = refl

@@ -12,7 +12,7 @@ use Rattle.lo_model.specs.declared.viewer.Viewer.{Viewer}
 use Rattle.lo_model.specs.Edit.{Deed, Create, Write, Cut, Unlink, Put, Delete, Edit, deeds, edits_by}
 use Rattle.lo_model.specs.Levels.{is_from_level, released, released_owner, undone, committed, committed_owner}
 use Rattle.lo_model.specs.Object.{laid_over, object_after, object_after_all, object_in}
-use Rattle.lo_model.specs.Touch.{touched, meets, blocks_of, busy_with}
+use Rattle.lo_model.specs.Touch.{touched, meets, pages_of, busy_with}
 use Rattle.lo_model.specs.View.{sees, sees_edit, view}
 use Rattle.lo_machine.specs.declared.change.Change.{Change}
 use Rattle.lo_machine.specs.declared.change.Change.TheVariants.{Created, Written}
@@ -147,15 +147,19 @@ other_object o change deed off = by_deed change deed off
     apart : (p : ℕ) → (p == o) ≡ false → (o == p) ≡ false
     apart p off = grind (arith, nat_tests)
 
-    created : (p at count : ℕ) → (o == p) ≡ false → meets (touched (Create o)) (blocks_of p at count) ≡ false
+    created : (p at count : ℕ) → (o == p) ≡ false → meets (touched (Create o)) (pages_of p at count) ≡ false
     created p at zero off = refl
     created p at (suc n) off = rw off refl
 
-    written_from : (at count p first : ℕ) → (o == p) ≡ false → meets (blocks_of o at count) (touched (Cut p first)) ≡ false
+    written_from : (at count p first : ℕ) → (o == p) ≡ false → meets (pages_of o at count) (touched (Cut p first)) ≡ false
     written_from at zero p first off = refl
     written_from at (suc n) p first off = rw off refl
 
-    written : (at count p at' count' : ℕ) → (o == p) ≡ false → meets (blocks_of o at count) (blocks_of p at' count') ≡ false
+    written_whole : (at count p : ℕ) → (o == p) ≡ false → meets (pages_of o at count) (touched (Create p)) ≡ false
+    written_whole at zero p off = refl
+    written_whole at (suc n) p off = rw off refl
+
+    written : (at count p at' count' : ℕ) → (o == p) ≡ false → meets (pages_of o at count) (pages_of p at' count') ≡ false
     written at zero p at' count' off = refl
     written at (suc n) p at' zero off = refl
     written at (suc n) p at' (suc m) off = rw off refl
@@ -167,18 +171,18 @@ other_object o change deed off = by_deed change deed off
     by_deed Created (Unlink p) off = apart p off
     by_deed Created (Put table id values stored) off = refl
     by_deed Created (Delete table id) off = refl
-    by_deed (Written at bytes) (Create p) off = written_from at (length bytes) p 0 (apart p off)
+    by_deed (Written at bytes) (Create p) off = written_whole at (length bytes) p (apart p off)
     by_deed (Written at bytes) (Write p at' bytes') off = written at (length bytes) p at' (length bytes') (apart p off)
     by_deed (Written at bytes) (Cut p size) off = written_from at (length bytes) p size (apart p off)
-    by_deed (Written at bytes) (Unlink p) off = written_from at (length bytes) p 0 (apart p off)
+    by_deed (Written at bytes) (Unlink p) off = written_whole at (length bytes) p (apart p off)
     by_deed (Written at bytes) (Put table id values stored) off = none (length bytes)
       where
-        none : (count : ℕ) → meets (blocks_of o at count) (touched (Put table id values stored)) ≡ false
+        none : (count : ℕ) → meets (pages_of o at count) (touched (Put table id values stored)) ≡ false
         none zero = refl
         none (suc n) = refl
     by_deed (Written at bytes) (Delete table id) off = none (length bytes)
       where
-        none : (count : ℕ) → meets (blocks_of o at count) (touched (Delete table id)) ≡ false
+        none : (count : ℕ) → meets (pages_of o at count) (touched (Delete table id)) ≡ false
         none zero = refl
         none (suc n) = refl
 

@@ -1,6 +1,6 @@
 -- The requests on array variables: the terms of their refusals in order, and what is granted where none holds. Variables belong
 -- to a session, and a rollback leaves them. (Manual, Arrays.)
-use Rattle.std.specs.Prelude.{ℕ, ℤ, pos, Bool, not, List, [], ◌∷◌, ◌++◌, filter, Option, Some, None, is_none, bytes_eq}
+use Rattle.std.specs.Prelude.{ℕ, ℤ, pos, Bool, true, false, not, List, [], ◌∷◌, ◌++◌, filter, Option, Some, None, is_none, bytes_eq}
 use Rattle.expanded_array.specs.Array.{Array, element_at, array_set, excess}
 use Rattle.expanded_array.specs.Layout.{array_in}
 use Rattle.expanded_array.specs.Read.{array_of_text, text_refusal}

@@ -2,17 +2,18 @@
 use Rattle.std.specs.Prelude.{◌≡◌, ℕ, ◌+◌, ◌-◌, ◌<◌, ◌≤◌, true, false, [], length, Option, slice_index_or}
 use Rattle.lo_model.specs.declared.owner.Owner.{Owner}
 use Rattle.lo_machine.specs.declared.blocks.Blocks.{Blocks}
-use Rattle.lo_machine.specs.Block.{Block, with_block}
+use Rattle.lo_model.specs.Transaction.{Transaction}
+use Rattle.lo_machine.specs.Plain.{with_block}
 use Rattle.xact_core.specs.Ends.{Turns, same, undo}
 use Rattle.xact_core.specs.Transactions.{levels_of}
 
 -- one session's block
-abbrev pub block_of : Blocks → (session : ℕ) → Block
+abbrev pub block_of : Blocks → (session : ℕ) → Transaction
 block_of b s = record { levels = levels_of b.xacts s; failed = slice_index_or b.failed.items (s - 1) false }
 
 -- One session has another block, and every other one the block that it had. What is made of each owner is the same for
 -- all edits.
-pub record Becomes (turn : Owner → Option Owner) (session : ℕ) (block : Block) (old new : Blocks) : Type 0 where
+pub record Becomes (turn : Owner → Option Owner) (session : ℕ) (block : Transaction) (old new : Blocks) : Type 0 where
   pub low : 1 ≤ session
   pub high : session ≤ 16
   pub owners : Turns turn old.xacts new.xacts

@@ -3,6 +3,7 @@
 -- Client Interfaces.)
 use Rattle.std.specs.Prelude.{ℕ, ℤ, pos, negsuc, ◌+◌, ◌-◌, ◌/◌, ◌%◌, ◌+ℤ◌, ◌==◌, Bool, true, false, not, ◌&&◌, ◌||◌, nat_lt, nat_le, int_lt, List, [], ◌∷◌, ◌++◌, length, take, drop, Option, Some, None, is_none, if◌then◌else◌}
 use Rattle.std.specs.Int.{w32, cast_unsigned}
+use Rattle.std.specs.Ordering.{int_eq}
 use Rattle.lo_base.specs.declared.reply.Reply.{Reply}
 use Rattle.lo_base.specs.declared.reply.Reply.TheVariants.{Number, Content}
 use Rattle.lo_base.specs.declared.refusal.Cause.TheVariants.{NoDescriptor, NotWritable, NoObject, BadMode, BadWhence, BadSeek, BadTruncate, PositionRange, TooManyDescriptors}
@@ -161,9 +162,8 @@ abbrev pub is_whence : ℤ → Bool
 is_whence whence = not (is_outside 2 whence)
 
 abbrev pub seek_base : State → (session : ℕ) → (whence : ℤ) → Descriptor → ℕ
-seek_base st s (pos 0) d = 0
-seek_base st s (pos 1) d = d.position
-seek_base st s _ d = length (bytes_at st s d)
+seek_base st s whence d =
+    if int_eq whence (pos 0) then 0 else if int_eq whence (pos 1) then d.position else length (bytes_at st s d)
 
 abbrev pub seek_target : State → (session : ℕ) → (offset whence : ℤ) → Descriptor → ℤ
 seek_target st s offset whence d = pos (seek_base st s whence d) +ℤ offset

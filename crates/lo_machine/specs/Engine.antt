@@ -7,11 +7,14 @@ use Rattle.lo_model.specs.declared.owner.Owner.TheVariants.{Running}
 use Rattle.lo_machine.specs.declared.change.Change.{Change}
 use Rattle.lo_machine.specs.declared.change.StampedChange.{StampedChange}
 use Rattle.lo_machine.specs.declared.engine.Engine.{Engine}
-use Rattle.lo_machine.specs.Block.{Block, with_block}
+use Rattle.lo_model.specs.Transaction.{Transaction}
+use Rattle.lo_machine.specs.Plain.{with_block}
 use Rattle.lo_machine.specs.Blocks.{block_of}
 use Rattle.lo_machine.specs.Change.{standing, edits_on, after_seen}
 use Rattle.lo_machine.specs.History.{history_of, Adds}
-use Rattle.lo_machine.specs.Step.{State, Outcome, now, reply_to, state_after}
+use Rattle.lo_machine.specs.Plain.{PlainState, PlainOutcome, now}
+use Rattle.lo_machine.specs.State.{State, session_of}
+use Rattle.lo_machine.specs.Step.{reply_to, state_after}
 use Rattle.xact_core.specs.Stamp.{made_at, owner_of, IsIssued}
 use Rattle.xact_core.specs.Transactions.{levels_of}
 use Rattle.xact_core.specs.declared.stamp.Stamp.{Stamp}
@@ -19,7 +22,7 @@ use Rattle.xact_core.specs.declared.snapshot.Snapshot.{Snapshot}
 
 -- What an engine keeps at a clock: the sessions' blocks, and for each object the edits on it, in the order made. Those
 -- that were undone are still among its changes, and stand for no edit.
-pub record Keeps (e : Engine) (clock : ℕ) (edits : List (Edit Deed)) (blocks : (session : ℕ) → Block) : Type 0 where
+pub record Keeps (e : Engine) (clock : ℕ) (edits : List (Edit Deed)) (blocks : (session : ℕ) → Transaction) : Type 0 where
   pub time : e.blocks.xacts.clock ≡ clock
   pub sessions : (s : ℕ) → 1 ≤ s → s ≤ 16 → block_of e.blocks s ≡ blocks s
   pub objects : (o : ℕ) → standing e.blocks.xacts o (history_of e.history o) ≡ edits_on o edits
@@ -29,9 +32,14 @@ pub record Keeps (e : Engine) (clock : ℕ) (edits : List (Edit Deed)) (blocks :
 abbrev pub IsTold : Engine → Type 0
 IsTold e = e.is_lost ≡ false
 
--- Which states an engine stands for. Nothing is told of one that found no memory.
+abbrev pub transactions_of : State → (session : ℕ) → Transaction
+transactions_of st s = (session_of st s).transaction
+
+-- Which states an engine stands for: those in which blocks are not counted, with the edits and the transaction blocks that it
+-- keeps. Nothing is told of one that found no memory.
 pub record StandsFor (e : Engine) (st : State) : Type 0 where
-  pub told : e.is_lost ≡ false → Keeps e st.advances st.database.edits st.blocks
+  pub told : e.is_lost ≡ false → Keeps e st.advances st.database.edits (transactions_of st)
+  pub uncounted : st.blocks ≡ None
 
 -- the number of requests that an engine has served
 abbrev pub steps_of : Engine → ℕ
@@ -49,16 +57,16 @@ pub record Serves (old new : Engine) (session : ℕ) (request : Request) (result
   pub lost : OnErr result (new.is_lost ≡ true)
 
 -- In the midst of a step its clock is counted already.
-abbrev pub KeepsAt : Engine → State → Type 0
+abbrev pub KeepsAt : Engine → PlainState → Type 0
 KeepsAt e st = Keeps e (now st) st.database.edits st.blocks
 
 -- what an outcome leaves
-abbrev pub Leaves : Engine → State → (session : ℕ) → Outcome → Type 0
+abbrev pub Leaves : Engine → PlainState → (session : ℕ) → PlainOutcome → Type 0
 Leaves e st s done = Keeps e (now st) done.edits (with_block s done.block st.blocks)
 
 -- A reply and what was done are those of an outcome, from every state that the engine was in.
-pub record Does (old new : Engine) (session : ℕ) (outcome : State → Outcome) (reply : Reply) : Type 0 where
-  pub does : (st : State) → KeepsAt old st → (reply ≡ (outcome st).reply) × Leaves new st session (outcome st)
+pub record Does (old new : Engine) (session : ℕ) (outcome : PlainState → PlainOutcome) (reply : Reply) : Type 0 where
+  pub does : (st : PlainState) → KeepsAt old st → (reply ≡ (outcome st).reply) × Leaves new st session (outcome st)
   pub time : steps_of new ≡ steps_of old
 
 -- the object of a number in a view

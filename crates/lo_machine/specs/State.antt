@@ -1,5 +1,5 @@
 -- The state between two advances, and what one request makes of it.
-use Rattle.std.specs.Prelude.{ℕ, ℤ, pos, ◌+◌, ◌==◌, Bool, false, not, List, [], ◌∷◌, ◌++◌, length, Option, Some, None, bytes_eq, if◌then◌else◌}
+use Rattle.std.specs.Prelude.{ℕ, ℤ, pos, ◌+◌, ◌==◌, Bool, true, false, List, [], ◌∷◌, ◌++◌, length, Option, Some, None, bytes_eq, if◌then◌else◌}
 use Rattle.std.specs.List.{find}
 use Rattle.expanded_array.specs.Array.{Array}
 use Rattle.lo_base.specs.declared.reply.Reply.{Reply}
@@ -12,7 +12,7 @@ use Rattle.lo_model.specs.Clock.{clock_after}
 use Rattle.lo_model.specs.Database.{Database, Table}
 use Rattle.lo_model.specs.Edit.{Deed, Edit, edits_by}
 use Rattle.lo_model.specs.Levels.{undone}
-use Rattle.lo_model.specs.Session.{Session, session_failed}
+use Rattle.lo_model.specs.Session.{Session, session_undone}
 use Rattle.lo_model.specs.Transaction.{top_level, is_open}
 use Rattle.lo_model.specs.View.{view, current_view}
 use Rattle.orphan_sweep.specs.History.{History}
@@ -106,7 +106,7 @@ left_with st s reply new session =
 abbrev pub refused_in : State → (session : ℕ) → (in_block : Bool) → Refusal → Outcome
 refused_in st s false refusal = answered st s (Refused refusal)
 refused_in st s true refusal =
-    left_with st s (Refused refusal) (undone s (top_level (session_of st s).transaction) (edits st)) (session_failed (session_of st s))
+    left_with st s (Refused refusal) (undone s (top_level (session_of st s).transaction) (edits st)) (session_undone (top_level (session_of st s).transaction) true (session_of st s))
 
 abbrev pub refused : State → (session : ℕ) → Refusal → Outcome
 refused st s refusal = refused_in st s (is_open (session_of st s).transaction) refusal

@@ -16,7 +16,7 @@ pub struct Blocks {
 
 impl Blocks {
     ghost use Rattle.lo_model.specs.declared.owner.Owner.TheVariants.{Running};
-    ghost use Rattle.lo_machine.specs.Block.{new_block, no_block, newest};
+    ghost use Rattle.lo_model.specs.Transaction.{new_transaction, no_transaction, newest};
     ghost use Rattle.lo_machine.specs.Blocks.{block_of, Becomes, Ticks, Fails};
     ghost use Rattle.xact_core.specs.Ends.{same, release, undo, commit_at};
     ghost use Rattle.xact_core.specs.Stamp.{owner_of};
@@ -82,7 +82,7 @@ impl Blocks {
     pub fn begin(&mut self, s: SessionNo) -> Result<(), NoMemory>
         requires none { levels_of self.old.xacts s ≡ [] }
         requires ready { IsReady self.old.xacts }
-        ensures { OnOk result (Becomes same s new_block self.old self.new) }
+        ensures { OnOk result (Becomes same s new_transaction self.old self.new) }
     {
         self.xacts.begin(s)?;
         self.failed[s.place()] = false;
@@ -139,7 +139,7 @@ impl Blocks {
     /// Commits the session's block at the present clock.
     pub fn commit(&mut self, s: SessionNo)
         requires { 0 < length (levels_of self.old.xacts s) }
-        ensures { Becomes (commit_at s self.old.xacts.clock) s no_block self.old self.new }
+        ensures { Becomes (commit_at s self.old.xacts.clock) s no_transaction self.old self.new }
     {
         self.xacts.commit(s);
         self.failed[s.place()] = false;
@@ -148,7 +148,7 @@ impl Blocks {
     /// Undoes the session's block and ends it.
     pub fn abort(&mut self, s: SessionNo)
         requires { 0 < length (levels_of self.old.xacts s) }
-        ensures { Becomes (undo s 1) s no_block self.old self.new }
+        ensures { Becomes (undo s 1) s no_transaction self.old self.new }
     {
         self.xacts.abort(s);
         self.failed[s.place()] = false;

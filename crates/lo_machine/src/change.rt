@@ -1,5 +1,5 @@
 ghost use Rattle.std.specs.Prelude.{◌≡◌, ◌+◌, ◌-◌, ◌<◌, ◌/◌, ℕ, None, length, IfOk, option_and_then};
-ghost use Rattle.lo_model.specs.Touch.{touched, meets, blocks_of, block_bytes, other_session, lower_of, busy_with};
+ghost use Rattle.lo_model.specs.Touch.{touched, meets, pages_of, page_bytes, other_session, lower_of, busy_with};
 ghost use Rattle.lo_machine.specs.Change.{deed_of, standing, is_creation, after_change, after_seen, is_there};
 
 use crate::object::lay_over;
@@ -24,7 +24,7 @@ pub struct StampedChange {
 }
 
 /// How many bytes a block has, which is the unit of conflict between transactions.
-const BLOCK_BYTES: u64 = 2048;
+const PAGE_BYTES: u64 = 2048;
 
 impl Change {
     fn is_creation(&self) -> bool
@@ -66,27 +66,27 @@ impl Change {
 
 /// Whether two writes touch some block in common, each given by its place and its bytes.
 fn writes_meet(at: u32, bytes: &[u8], other_at: u32, other: &[u8]) -> bool
-    ensures { (o : ℕ) → result ≡ meets (blocks_of o at (length bytes.now)) (blocks_of o other_at (length other.now)) }
+    ensures { (o : ℕ) → result ≡ meets (pages_of o at (length bytes.now)) (pages_of o other_at (length other.now)) }
 {
     !bytes.is_empty()
         && !other.is_empty()
-        && first_block(at) <= last_block(other_at, other)
-        && first_block(other_at) <= last_block(at, bytes)
+        && first_page(at) <= last_page(other_at, other)
+        && first_page(other_at) <= last_page(at, bytes)
 }
 
 /// The block of a write's first byte.
-fn first_block(at: u32) -> u64
-    ensures { result ≡ at / block_bytes }
+fn first_page(at: u32) -> u64
+    ensures { result ≡ at / page_bytes }
 {
-    u64::from(at) / BLOCK_BYTES
+    u64::from(at) / PAGE_BYTES
 }
 
 /// The block of a write's last byte.
-fn last_block(at: u32, bytes: &[u8]) -> u64
+fn last_page(at: u32, bytes: &[u8]) -> u64
     requires { 0 < length bytes.now }
-    ensures { result ≡ (at + (length bytes.now - 1)) / block_bytes }
+    ensures { result ≡ (at + (length bytes.now - 1)) / page_bytes }
 {
-    (u64::from(at) + (bytes.len() as u64 - 1)) / BLOCK_BYTES
+    (u64::from(at) + (bytes.len() as u64 - 1)) / PAGE_BYTES
 }
 
 /// Whether a view has the object of these changes.

@@ -1,6 +1,6 @@
 ghost use Rattle.std.specs.Prelude.{◌≡◌, pos, false, ◌<◌, ◌≤◌, length, IfOk, OnOk};
-ghost use Rattle.lo_machine.specs.Spelled.{IsPutPlace};
-ghost use Rattle.lo_machine.specs.Step.{may_recover, place_of};
+ghost use Rattle.lo_machine.specs.Served.{IsPutOffset};
+ghost use Rattle.lo_machine.specs.Plain.{may_recover, offset_of};
 
 use crate::blocks::Blocks;
 use crate::change::{Change, StampedChange, content, exists, holder};
@@ -8,6 +8,9 @@ use crate::history::History;
 use lo_base::{Bytes, Cause, Name, NoMemory, Oid, Refusal, Reply, Request, SessionNo, Word};
 use std::alloc::Global;
 use xact_core::Snapshot;
+
+/// The most bytes that one request reads.
+const READ_LIMIT: usize = 16777216;
 
 /// Does one request after another. It keeps what was done to each object, and finds the object of a view by doing the
 /// changes again that the view has.
@@ -27,8 +30,8 @@ impl Engine {
     ghost use Rattle.lo_machine.specs.Counts.{IsReady};
     ghost use Rattle.lo_machine.specs.Engine.{IsTold, StandsFor, Serves, Does, Tops, HasRoom, steps_of, object_kept};
     ghost use Rattle.lo_machine.specs.Run.{start};
-    ghost use Rattle.lo_machine.specs.Spelled.{IsSpelled, IsPutPlace, IsAllBytes, put_limit};
-    ghost use Rattle.lo_machine.specs.Step.{outcome, served, changed, refused, no_savepoint, may_recover};
+    ghost use Rattle.lo_machine.specs.Served.{IsServed, IsPutOffset, IsAllBytes, put_limit};
+    ghost use Rattle.lo_machine.specs.Plain.{outcome, served, changed, refused, sent, no_savepoint, may_recover};
     ghost use Rattle.xact_core.specs.Kept.{view_at};
     ghost use Rattle.xact_core.specs.Transactions.{levels_of};
 
@@ -48,7 +51,7 @@ impl Engine {
 
     /// Does one request of a session. Where it finds no memory, so do all requests after it.
     pub fn step(&mut self, s: SessionNo, request: &Request) -> Result<Reply, NoMemory>
-        requires spelled { IsSpelled request.now }
+        requires served { IsServed request.now }
         requires room { HasRoom self.old }
         ensures { Serves self.old self.new s request.now result }
     {
@@ -69,7 +72,7 @@ impl Engine {
         view: &Snapshot,
         request: &Request,
     ) -> Result<Reply, NoMemory>
-        requires spelled { IsSpelled request.now }
+        requires served { IsServed request.now }
         requires view { view.now ≡ view_at self.old.blocks.xacts.clock (Whole s) }
         requires ready { IsReady self.old.blocks.xacts }
         ensures { IfOk result (Does self.old self.new s (λ st. outcome st s request.now)) }
@@ -88,6 +91,7 @@ impl Engine {
             Request::LoPut(oid, at, bytes) => self.put(s, view, *oid, *at, bytes.items()),
             Request::LoGet(oid, from, length) => self.get(s, view, *oid, *from, *length),
             Request::Vacuum => Ok(self.vacuum(s)),
+            _ => unreachable!(),
         }
     }
 
@@ -200,7 +204,7 @@ impl Engine {
         at: i64,
         bytes: &[u8],
     ) -> Result<Reply, NoMemory>
-        requires at { IsPutPlace at }
+        requires at { IsPutOffset at }
         requires bytes { length bytes.now ≤ put_limit }
         requires unfailed { (block_of self.old.blocks s).failed ≡ false }
         requires view { view.now ≡ view_at self.old.blocks.xacts.clock (Whole s) }
@@ -213,7 +217,7 @@ impl Engine {
         if bytes.is_empty() {
             return Ok(Reply::Word(Word::Ok));
         }
-        let written = Change::Written(place_of(at), Bytes::from_slice(self.alloc, bytes)?);
+        let written = Change::Written(offset_of(at), Bytes::from_slice(self.alloc, bytes)?);
         self.change(s, oid, written, Reply::Word(Word::Ok))
     }
 
@@ -231,9 +235,21 @@ impl Engine {
         ensures { IfOk result (Does self.old self.new s (λ st. served st s (Request.LoGet oid from length))) }
     {
         match content(self.alloc, self.blocks.xacts(), view, self.history.of(oid))? {
-            Some(bytes) => Ok(Reply::Content(bytes)),
+            Some(bytes) => Ok(self.send(s, bytes)),
             None => Ok(self.refuse(s, Cause::NoObject, i64::from(oid))),
         }
+    }
+
+    /// The reply of bytes that are read, unless they are too many.
+    fn send(&mut self, s: SessionNo, bytes: Bytes) -> Reply
+        requires { IsReady self.old.blocks.xacts }
+        ensures { Does self.old self.new s (λ st. sent st s bytes) result }
+    {
+        let count = bytes.items().len();
+        if count > READ_LIMIT {
+            return self.refuse(s, Cause::TooMuch, count as i64);
+        }
+        Reply::Content(bytes)
     }
 
     /// Whether the view has the object.
@@ -288,9 +304,9 @@ impl Engine {
 }
 
 /// A place in an object, of a put.
-fn place_of(at: i64) -> u32
-    requires { IsPutPlace at }
-    ensures { result ≡ place_of at }
+fn offset_of(at: i64) -> u32
+    requires { IsPutOffset at }
+    ensures { result ≡ offset_of at }
 {
     at as u32
 }

@@ -1,6 +1,6 @@
 ghost use Rattle.std.specs.Prelude.{◌≡◌, ◌-◌, List, [], ◌∷◌, ◌++◌, replicate, All, IfOk, OnOk, OnErr, slice_set};
 ghost use Rattle.lo_machine.specs.Program.{program_of};
-ghost use Rattle.lo_machine.specs.Spelled.{IsSpelled};
+ghost use Rattle.lo_machine.specs.Served.{IsServed};
 
 use lo_base::{ListOf, NoMemory, Request, Requests, SESSIONS, SessionNo};
 use std::alloc::Global;
@@ -17,13 +17,13 @@ pub struct Programs {
 impl Model for Programs {
     ghost use Rattle.std.specs.Prelude.{◌≡◌, List, All, length};
     ghost use Rattle.lo_base.specs.declared.request.Request.{Request as Line};
-    ghost use Rattle.lo_machine.specs.Spelled.{IsSpelled};
+    ghost use Rattle.lo_machine.specs.Served.{IsServed};
 
     ghost Value = { List (List Line) };
 
     ghost view = { λ p. p.lists.items };
 
-    ghost invariant = { λ p. (length p.lists.items ≡ 16) × All (λ lines. All IsSpelled lines) p.lists.items };
+    ghost invariant = { λ p. (length p.lists.items ≡ 16) × All (λ lines. All IsServed lines) p.lists.items };
 }
 
 impl Programs {
@@ -40,7 +40,7 @@ impl Programs {
 
     /// Adds a request at the end of the session's program.
     pub fn push(&mut self, s: SessionNo, request: Request) -> Result<(), NoMemory>
-        requires { IsSpelled request }
+        requires { IsServed request }
         ensures ok { OnOk result (self.new ≡ slice_set self.old (s - 1) (program_of self.old s ++ request ∷ [])) }
         ensures err { OnErr result (self.new ≡ self.old) }
     {
@@ -50,7 +50,7 @@ impl Programs {
     /// The session's program.
     pub fn lines(&self, s: SessionNo) -> &[Request]
         ensures lines { result.now ≡ program_of self.now s }
-        ensures spelled { All IsSpelled result.now }
+        ensures served { All IsServed result.now }
     {
         self.lists[s.place()].items()
     }
@@ -59,14 +59,14 @@ impl Programs {
     pub fn take(&mut self, s: SessionNo) -> Requests
         ensures taken { result ≡ program_of self.old s }
         ensures left { self.new ≡ slice_set self.old (s - 1) [] }
-        ensures spelled { All IsSpelled result }
+        ensures served { All IsServed result }
     {
         mem::replace(&mut self.lists[s.place()], ListOf::new(self.alloc))
     }
 
     /// Puts a program in place of the session's.
     pub fn place(&mut self, s: SessionNo, lines: Requests)
-        requires { All IsSpelled lines }
+        requires { All IsServed lines }
         ensures { self.new ≡ slice_set self.old (s - 1) lines }
     {
         self.lists[s.place()] = lines;

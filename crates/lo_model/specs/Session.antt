@@ -36,11 +36,6 @@ session_undone k failed session = record {
   cursors = cursors_below k session.cursors;
 }
 
--- A refusal undoes the top level of a block and fails the block. Outside a block it leaves the session.
-abbrev pub session_failed : Session → Session
-session_failed session =
-    if is_open session.transaction then session_undone (top_level session.transaction) true session else session
-
 -- with other descriptors, and with other cursors
 abbrev pub with_descriptors : List Descriptor → Session → Session
 with_descriptors descriptors session =

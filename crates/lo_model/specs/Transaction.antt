@@ -1,5 +1,5 @@
 -- Transaction blocks. (Manual, BEGIN, SAVEPOINT, RELEASE SAVEPOINT and ROLLBACK TO SAVEPOINT.)
-use Rattle.std.specs.Prelude.{ℕ, ◌+◌, ◌-◌, ◌==◌, Bool, false, not, List, [], ◌∷◌, ◌++◌, length, take, Option, Some, None, bytes_eq, if◌then◌else◌}
+use Rattle.std.specs.Prelude.{ℕ, ◌+◌, ◌-◌, Bool, true, false, List, [], ◌∷◌, ◌++◌, length, take, Option, Some, None, bytes_eq, if◌then◌else◌}
 
 -- A session is outside a transaction block, which is to have no levels, or in one: level 1 without a name, and one more for
 -- each savepoint. A block is failed after a refusal in it, until it ends or a rollback to one of its savepoints.
@@ -18,8 +18,12 @@ new_transaction = record { levels = None ∷ []; failed = false }
 abbrev pub top_level : Transaction → ℕ
 top_level t = length t.levels
 
+abbrev pub has_levels : List (Option (List ℕ)) → Bool
+has_levels [] = false
+has_levels (level ∷ levels) = true
+
 abbrev pub is_open : Transaction → Bool
-is_open t = not (top_level t == 0)
+is_open t = has_levels t.levels
 
 -- with one level more, that of a savepoint
 abbrev pub with_savepoint : (name : List ℕ) → Transaction → Transaction

@@ -22,4 +22,4 @@ pub returns : goal.returns
 returns c =
     let there = subst (λ v. true ≡ is_there (object_kept c.args.self.now v c.args.oid)) c.requires.view c.if-not-exists.ensures in
     let some : 0 < length c.args.bytes.now = grind (arith, nat_tests) in
-    IfOk-weaker c.change.result _ _ (λ reply does. puts c.args.self.now _ c.args.s c.args.oid c.place_of.result c.args.at c.args.bytes.now reply there some (search rules) (search (rules, does))) c.change.ensures
+    IfOk-weaker c.change.result _ _ (λ reply does. puts c.args.self.now _ c.args.s c.args.oid c.offset_of.result c.args.at c.args.bytes.now reply there some (search rules) (search (rules, does))) c.change.ensures
