@@ -5,3 +5,4 @@ pub mod Kept
 pub mod Layout
 pub mod Text
 pub mod Spelling
+pub mod Read

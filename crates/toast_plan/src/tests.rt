@@ -145,6 +145,7 @@ fn check_row(
     let table = columns_of(alloc, kinds)?;
     let columns = table.as_slice();
     assert!(rt; are_table_columns(columns));
+    assert!(rt; columns.len() <= COLUMN_LIMIT);
     assert!(rt; fit_columns(columns, values));
     assert!(rt; starts_with_id(values));
     let lengths = lengths_of(columns, values);
