@@ -11,5 +11,6 @@ mod Places
 mod ReadLaws
 mod SetLaws
 mod SpellingLaws
+mod TextLaws
 mod Uniqueness
 mod Written

@@ -32,23 +32,31 @@ abbrev pub elements_of_parts : List (List ℕ) → Option (List (Option ℤ))
 elements_of_parts [] = Some []
 elements_of_parts (part ∷ parts) = option_and_then (λ e. option_map (λ es. e ∷ es) (elements_of_parts parts)) (element_of part)
 
+-- a lower bound, where these are the bounds of so many elements from it on
+abbrev pub if_bounds : List ℕ → ℕ → ℤ → Option ℤ
+if_bounds bytes count lower = if bytes_eq bytes (explicit_bounds lower count) then Some lower else None
+
 -- the lower bound of so many elements: 1 where no bounds are written
 abbrev pub lower_of_bounds : List ℕ → ℕ → Option ℤ
 lower_of_bounds [] count = Some (pos 1)
-lower_of_bounds (b ∷ bytes) count = option_and_then (λ z. if bytes_eq (b ∷ bytes) (explicit_bounds z count) then Some z else None) (number_of (before_first (λ c. c == 58) bytes))
+lower_of_bounds (b ∷ bytes) count = option_and_then (if_bounds (b ∷ bytes) count) (number_of (before_first (λ c. c == 58) bytes))
 
--- the array of these elements, if there is one
+-- the array of these elements from a lower bound on, if there is one
 abbrev pub array_from : List (Option ℤ) → ℤ → Option Array
 array_from elements lower = if int_le (last_of lower (length elements)) last_limit then Some (Bounded lower elements) else None
 
--- what stands before a closing brace at the end
+-- the array with these bounds and elements, with these bytes between its braces, and with these behind the opening one
+abbrev pub array_with : List ℕ → List (Option ℤ) → Option Array
+array_with bounds elements = option_and_then (array_from elements) (lower_of_bounds bounds (length elements))
+
+abbrev pub array_between : List ℕ → List ℕ → Option Array
+array_between bounds body = option_and_then (array_with bounds) (elements_of_parts (slice_split is_comma body))
+
 abbrev pub before_brace : List ℕ → Option (List ℕ)
 before_brace behind = if bytes_eq behind (take (length behind - 1) behind ++ codes "}") then Some (take (length behind - 1) behind) else None
 
--- the array with these bounds, and this text behind its opening brace
 abbrev pub array_behind : List ℕ → List ℕ → Option Array
-array_behind bounds behind =
-    option_and_then (λ body. option_and_then (λ es. option_and_then (array_from es) (lower_of_bounds bounds (length es))) (elements_of_parts (slice_split is_comma body))) (before_brace behind)
+array_behind bounds behind = option_and_then (array_between bounds) (before_brace behind)
 
 -- the array that a text spells, of any number of elements. There is none where the text is malformed
 abbrev pub array_of_text : List ℕ → Option Array

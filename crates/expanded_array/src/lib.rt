@@ -15,5 +15,8 @@ mod tests;
 mod text;
 
 pub use array_var::ArrayVar;
-pub use law::{flat_bytes_tell, printed_text_spells, set_changes_one, text_spells_one};
+pub use law::{
+    flat_bytes_are_read, flat_bytes_tell, printed_text_spells, set_changes_one, text_spells_one,
+    texts_are_read,
+};
 pub use layout::is_flat;
