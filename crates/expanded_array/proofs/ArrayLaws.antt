@@ -9,7 +9,7 @@ use Rattle.std.proofs.lemmas.List.{get_or_past, length-set, length-append, lengt
 use Rattle.expanded_array.specs.Array.{Array, Empty, Bounded, elements_of, element_at, IsHeld, element_above, index_above, index_in, limit, last_limit, last_of, lower_bound, size_of, size_set, elements_set, array_set, excess}
 use Rattle.expanded_array.specs.Layout.{array_of}
 use Rattle.expanded_array.specs.Kept.{size_after, excess_of}
-use Rattle.expanded_array.proofs.Elements.{AreInt4, int4_cons, tail_are_int4}
+use Rattle.expanded_array.proofs.Packing.{AreInt4, int4_cons, tail_are_int4}
 
 pub array_of-some : (lower : ℤ) (es : List (Option ℤ)) → 0 < length es → array_of lower es ≡ Bounded lower es
 array_of-some lower [] h = absurd (omega arith)

@@ -4,6 +4,8 @@ use Rattle.std.specs.Prelude.{codes}
 use Rattle.std.specs.Fmt.{digits}
 use Rattle.expanded_array.specs.Array.{Array, Empty, Bounded, array_set, element_at, excess}
 use Rattle.expanded_array.specs.Flat.{flat_bytes}
+use Rattle.expanded_array.specs.Layout.{array_in}
+use Rattle.expanded_array.specs.Read.{array_of_text}
 use Rattle.expanded_array.specs.Text.{array_text}
 use Rattle.expanded_array.proofs.ArrayLaws.{excess_is}
 
@@ -82,3 +84,55 @@ beyond_last = refl
 
 at_last : excess Empty (pos 2147483646) ≡ None
 at_last = refl
+
+-- ---- texts read
+
+read_with_gap : array_of_text (codes "{1,2,null,NULL,+5}") ≡ Some with_gap
+unfolding with_gap digits
+read_with_gap = refl
+
+read_from_zero : array_of_text (codes "[0:5]={9,1,2,NULL,NULL,5}") ≡ Some from_zero
+unfolding from_zero digits
+read_from_zero = refl
+
+read_below : array_of_text (codes "[-1:0]={-7,007}") ≡ Some (Bounded (negsuc 0) (Some (negsuc 6) ∷ Some (pos 7) ∷ []))
+unfolding digits
+read_below = refl
+
+read_empty : array_of_text (codes "{}") ≡ Some Empty
+read_empty = refl
+
+-- no closing brace, no element, a space, an int8, bounds of another number of elements, bounds with a leading zero
+not_closed : array_of_text (codes "{1,") ≡ None
+not_closed = refl
+
+nothing_between : array_of_text (codes "{1,,2}") ≡ None
+nothing_between = refl
+
+a_space : array_of_text (codes "{1, 2}") ≡ None
+a_space = refl
+
+too_large : array_of_text (codes "{2147483648}") ≡ None
+too_large = refl
+
+other_bounds : array_of_text (codes "[1:3]={1,2}") ≡ None
+unfolding digits
+other_bounds = refl
+
+bounds_with_zero : array_of_text (codes "[01:2]={1,2}") ≡ None
+unfolding digits
+bounds_with_zero = refl
+
+-- the last subscript is 2147483646 at most
+at_the_last : array_of_text (codes "[2147483646:2147483646]={1}") ≡ Some (Bounded (pos 2147483646) (Some (pos 1) ∷ []))
+unfolding digits
+at_the_last = refl
+
+behind_the_last : array_of_text (codes "[2147483647:2147483647]={1}") ≡ None
+unfolding digits
+behind_the_last = refl
+
+-- flat bytes read back
+gap_again : array_in (flat_bytes with_gap) ≡ with_gap
+unfolding with_gap
+gap_again = refl

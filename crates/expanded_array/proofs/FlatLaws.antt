@@ -14,7 +14,7 @@ use Rattle.expanded_array.specs.Flat.{IsFlat, flat_bytes, header, number_of_flag
 use Rattle.expanded_array.specs.Layout.{unpacked, int4_at, word_at, number_of_bytes, flags_of, flags_in, elements_in, array_of, are_bounds, header_len, sparse_start, bitmap_in, padding_in, is_empty_layout, has_header, is_plain_layout, has_sparse_body, is_sparse_layout, is_flat_layout, start_in, array_in}
 use Rattle.expanded_array.proofs.Bits.{AreBytes, bytes_take, bytes_drop, number_of_flags-lt, number_of_flags-flags_of, flags_of-number_of_flags, length-flags_of, low_bytes-number_of_bytes, number_of_bytes-low_bytes, length-low_bytes}
 use Rattle.expanded_array.proofs.ArrayLaws.{array_of-some}
-use Rattle.expanded_array.proofs.Elements.{AreInt4, word_read, int4_read, unpacked-numbers, numbers-unpacked, presence-unpacked, length-unpacked, length-numbers, unpacked_are_int4, word_at-lt, word_back, int4_back, has_absent_less, no_absent, no_absent_in_all}
+use Rattle.expanded_array.proofs.Packing.{AreInt4, word_read, int4_read, unpacked-numbers, numbers-unpacked, presence-unpacked, length-unpacked, length-numbers, unpacked_are_int4, word_at-lt, word_back, int4_back, has_absent_less, no_absent, no_absent_in_all}
 
 -- ---- the fields behind a header
 

@@ -1,12 +1,16 @@
 mod ArrayLaws
 mod Bits
+mod BodyLaws
 mod ColonLaws
-mod Elements
+mod Packing
 mod Examples
 mod FlatLaws
 mod Fronts
+mod Growing
 mod Places
+mod ReadLaws
 mod SetLaws
 mod SpellingLaws
+mod TextLaws
 mod Uniqueness
 mod Written

@@ -12,7 +12,7 @@ use Rattle.expanded_array.specs.Flat.{IsFlat, flat_bytes, number_of_flags, bitma
 use Rattle.expanded_array.specs.Layout.{unpacked, int4_at, word_at, number_of_bytes, flags_of, flags_in, elements_in, array_of, array_in, start_in, bitmap_in, header_len, sparse_start, is_plain_layout, is_sparse_layout, is_flat_layout}
 use Rattle.expanded_array.specs.Kept.{Reads, place_in}
 use Rattle.expanded_array.proofs.Bits.{AreBytes, bytes_take, bytes_drop, tail_are_bytes, number_of_flags-flags_of, number_of_flags-lt, length-flags_of, ones_byte, ones_zero, ones_true, ones_false}
-use Rattle.expanded_array.proofs.Elements.{no_absent, no_absent_in_all, length-unpacked}
+use Rattle.expanded_array.proofs.Packing.{no_absent, no_absent_in_all, length-unpacked}
 use Rattle.expanded_array.proofs.FlatLaws.{flat_laid_out, flat_holds, heads, sparse, start_in-plain, start_in-sparse}
 
 -- ---- flags one by one

@@ -20,7 +20,7 @@ use Rattle.expanded_array.specs.Text.{array_text, bounds_text, element_text, exp
 use Rattle.expanded_array.specs.Spelling.{HasNoBrace, HasNoColon, SpellsBounded, SpellsBounds, SpellsElement, SpellsElements, Spells, IsTextDenial, ReadsAgain, is_comma}
 use Rattle.lo_base.specs.declared.refusal.Denied.{Denied}
 use Rattle.lo_base.specs.declared.refusal.Denied.TheVariants.{By, NoMemory}
-use Rattle.expanded_array.proofs.Elements.{AreInt4, int4_cons, tail_are_int4}
+use Rattle.expanded_array.proofs.Packing.{AreInt4, int4_cons, tail_are_int4}
 use Rattle.expanded_array.specs.Layout.{array_of}
 use Rattle.expanded_array.proofs.SpellingLaws.{comma_none}
 
@@ -118,7 +118,7 @@ second_digit b c cs false false h = digit_range c cs h.1
 second_is_digit : (b c : ℕ) (cs : List ℕ) → IsNumeral 10 (without_leading_sign (b ∷ c ∷ cs)) → IsInRange 48 57 c
 second_is_digit b c cs h = second_digit b c cs (b == 45) (b == 43) h.1
 
-word_no_number : (bytes : List ℕ) → map to_ascii_lowercase bytes ≡ codes "null" → IsNumeral 10 (without_leading_sign bytes) → ⊥
+pub word_no_number : (bytes : List ℕ) → map to_ascii_lowercase bytes ≡ codes "null" → IsNumeral 10 (without_leading_sign bytes) → ⊥
 word_no_number [] w h = cc
 word_no_number (b ∷ []) w h = cc
 word_no_number (b ∷ c ∷ cs) w h = let second : to_ascii_lowercase c ≡ 117 = cc in digit_no_letter c (second_is_digit b c cs h) second
@@ -262,7 +262,7 @@ spells_one text (Bounded l xs) (Bounded m ys) h k = bounded_one text l m xs ys h
 
 -- ---- what is spelled is an array
 
-length_all_zip_of : (ps : List (List ℕ)) (es : List (Option ℤ)) → AllZip SpellsElement ps es → length ps ≡ length es
+pub length_all_zip_of : (ps : List (List ℕ)) (es : List (Option ℤ)) → AllZip SpellsElement ps es → length ps ≡ length es
 length_all_zip_of [] [] h = refl
 length_all_zip_of [] (e ∷ es) h = absurd h
 length_all_zip_of (p ∷ ps) [] h = absurd h

@@ -1,12 +1,15 @@
 -- Flat bytes written part by part.
-use Rattle.std.proofs.Common.{◌≡◌, ◌+◌, ◌*◌, ◌<◌, ◌≤◌, ℕ, ℤ, List, [], ◌∷◌, ◌++◌, length, take, replicate, false, Option, count_ones, ap, sym, ◌∙◌, arith, nat_eq, inl, inr}
+use Rattle.std.proofs.Common.{◌≡◌, ◌+◌, ◌*◌, ◌<◌, ◌≤◌, ℕ, ℤ, List, [], ◌∷◌, ◌++◌, length, take, replicate, false, Option, count_ones, ap, sym, subst, ◌∙◌, arith, nat_eq, inl, inr}
 use Rattle.std.specs.Prelude.{◌≢◌, is_some}
-use Rattle.std.proofs.lemmas.Bool.{true≢false, cases_Bool, cond-true, cond-false, eq-eqb, ne_eqb, cases_eq}
+use Rattle.std.proofs.lemmas.Bool.{true≢false, cases_Bool, cond-true, cond-false, eq-eqb, ne_eqb, cases_eq, cases_lt}
+use Rattle.std.proofs.lemmas.Nat.{ones-le}
 use Rattle.std.proofs.lemmas.List.{append_assoc, take_all, take-replicate, length-map}
 use Rattle.expanded_array.specs.Flat.{flat_bytes, header, number_of_flags, presence, numbers, has_absent, bitmap, data_offset, padding}
 use Rattle.expanded_array.specs.Layout.{array_of, header_len, sparse_start, first_place}
+use Rattle.expanded_array.specs.Array.{Array, Empty, Bounded, IsHeld}
+use Rattle.expanded_array.proofs.Bits.{number_of_flags-lt}
 use Rattle.expanded_array.proofs.ArrayLaws.{array_of-some}
-use Rattle.expanded_array.proofs.Elements.{length-numbers, has_absent_less, no_absent}
+use Rattle.expanded_array.proofs.Packing.{length-numbers, has_absent_less, no_absent}
 use Rattle.expanded_array.proofs.FlatLaws.{flat_plain, length_header, length_sparse}
 
 -- two and four parts, each written behind the one before it
@@ -63,3 +66,30 @@ flat_length lower (x ∷ es) p e =
       | inl all ↦ ap (λ k. k + 4 * p) (cond-false _ _ _ some ∙ cond-true (nat_eq p (length (x ∷ es))) header_len _ (eq-eqb _ _ all)) ∙ ap (λ k. header_len + k) e ∙ sym (plain_length lower (x ∷ es) p e (omega arith) all)
       | inr less ↦ ap (λ k. k + 4 * p) (cond-false _ _ _ some ∙ cond-false (nat_eq p (length (x ∷ es))) header_len _ (ne_eqb _ _ less)) ∙ ap (λ k. sparse_start (length (x ∷ es)) + k) e ∙ sym (sparse_length lower (x ∷ es) p e (omega arith) less)
     ]
+
+-- the longest: all elements but one
+place_few : (n p : ℕ) → n ≤ 1048576 → p ≤ n → first_place n p + 4 * p ≤ 4325392
+place_few n p few le =
+    elim (cases_eq n 0) [
+      | inl none ↦ let at : first_place n p ≡ 12 = cond-true (nat_eq n 0) 12 _ (eq-eqb _ _ none) in omega (arith, at)
+      | inr some ↦ elim (cases_lt p n) [
+        | inl less ↦
+            let at : first_place n p ≡ sparse_start n = cond-false (nat_eq n 0) _ _ (ne_eqb _ _ some) ∙ cond-false (nat_eq p n) header_len (sparse_start n) (ne_eqb _ _ (λ e. omega (arith, e))) in
+            omega (arith, at)
+        | inr all ↦
+            let same : p ≡ n = omega arith in
+            let at : first_place n p ≡ header_len = cond-false (nat_eq n 0) _ _ (ne_eqb _ _ some) ∙ cond-true (nat_eq p n) header_len (sparse_start n) (eq-eqb _ _ same) in
+            omega (arith, at)
+      ]
+    ]
+
+few_bytes : (lower : ℤ) (es : List (Option ℤ)) → length es ≤ 1048576 → length (flat_bytes (array_of lower es)) ≤ 4325392
+few_bytes lower es few =
+    let p = count_ones (number_of_flags (presence es)) in
+    let within : p ≤ length es = omega (arith, ones-le (length (presence es)) (number_of_flags (presence es)) (number_of_flags-lt (presence es)), length-map es is_some) in
+    omega (arith, flat_length lower es p (sym (length-numbers es)), place_few (length es) p few within)
+
+-- the flat bytes of an array that a variable may hold are few
+pub flat_few : (a : Array) → IsHeld a → length (flat_bytes a) ≤ 4325392
+flat_few Empty h = omega arith
+flat_few (Bounded lower es) h = subst (λ a. length (flat_bytes a) ≤ 4325392) (array_of-some lower es h.array.some) (few_bytes lower es h.few)

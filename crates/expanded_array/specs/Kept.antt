@@ -38,7 +38,7 @@ abbrev pub IsRead : FlatArray → Type 0
 IsRead f = Reads f.bytes.items f.lower f.count f.start
 
 abbrev pub expanded_array : Expanded → Array
-expanded_array e = array_of e.lower e.elements.items
+expanded_array e = array_of e.lower e.elements
 
 abbrev pub kept_array : Kept → Array
 kept_array (Flat f) = flat_array f

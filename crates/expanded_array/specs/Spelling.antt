@@ -59,6 +59,15 @@ abbrev pub IsTextDenial : List ℕ → Denied → Type 0
 IsTextDenial text NoMemory = ⊤
 IsTextDenial text (By refusal) = ((refusal ≡ malformed) × ((a : Array) → Spells text a → ⊥)) ⊎ IsTooBig text refusal
 
+-- the text spells no array with elements
+abbrev pub SpellsNone : List ℕ → Type 0
+SpellsNone text = (lower : ℤ) (elements : List (Option ℤ)) → SpellsBounded text lower elements → ⊥
+
+-- the same of a text that is not the empty array's
+abbrev pub IsBoundedDenial : List ℕ → Denied → Type 0
+IsBoundedDenial text NoMemory = ⊤
+IsBoundedDenial text (By refusal) = ((refusal ≡ malformed) × SpellsNone text) ⊎ IsTooBig text refusal
+
 -- the array is read, unless there is no memory
 abbrev pub ReadsAgain : Array → Result Array Denied → Type 0
 ReadsAgain a (Ok b) = b ≡ a
@@ -86,3 +95,13 @@ HasNoColon bytes = (k : ℕ) → k < length bytes → slice_index bytes k ≡ 58
 pub record SplitsAtBrace (text before behind : List ℕ) : Type 0 where
   pub whole : text ≡ before ++ (codes "{" ++ behind)
   pub first : HasNoBrace before
+
+-- a text with these bytes between its braces, parts between commas, whose bounds are those of as many elements
+pub record HasBody (text : List ℕ) (lower : ℤ) (count : ℕ) (body : List ℕ) : Type 0 where
+  pub bounds : List ℕ
+  pub whole : text ≡ bounds ++ (codes "{" ++ (body ++ codes "}"))
+  pub first : HasNoBrace bounds
+  pub bounds_are : SpellsBounds bounds lower count
+  pub int4 : FitsSigned w32 lower
+  pub last : last_of lower count ≤ℤ last_limit
+  pub parts : count ≡ length (slice_split is_comma body)

@@ -11,7 +11,6 @@ ghost use Rattle.expanded_array.specs.Flat.{IsFlat, flat_bytes};
 
 use crate::expanded::{Expanded, excess_of};
 use crate::flat_array::FlatArray;
-use crate::layout::LIMIT;
 use crate::reading::read_text;
 use crate::text::{push_bounds, push_next};
 use lo_base::{Bytes, Cause, Denied, NoMemory, Refusal};
@@ -97,7 +96,7 @@ impl Kept {
     {
         match self {
             Kept::Flat(flat) => flat.next(index, place),
-            Kept::Elements(expanded) => (expanded.elements[index], 0),
+            Kept::Elements(expanded) => (expanded.elements.as_slice()[index], 0),
         }
     }
 
@@ -171,7 +170,7 @@ impl Model for ArrayVar {
 
 impl ArrayVar {
     /// The array that a text spells, kept in flat bytes. `BadArray` where it spells none, `ArrayTooBig` with their number
-    /// where it spells one of more than 1,048,576 elements.
+    /// where it spells one of more than 1,048,576 elements. Elements are counted before memory is taken for them.
     #[tactic(auto, using(crate::proofs::Uniqueness::reads_again))]
     pub fn from_text(alloc: Global, text: &[u8]) -> Result<ArrayVar, Denied>
         ensures spelled { IfOk result (λ a. Spells text.now a) }
@@ -203,9 +202,10 @@ impl ArrayVar {
         }
     }
 
-    /// The length of the flat bytes: at most 4,325,392.
+    /// The length of the flat bytes: at most 4,325,392, which an array of 1,048,576 elements with one null has.
     pub fn flat_len(&self) -> u32
-        ensures { result ≡ length (flat_bytes self.now) }
+        ensures len { result ≡ length (flat_bytes self.now) }
+        ensures few { result ≤ 4325392 }
     {
         match &self.kept {
             Kept::Flat(flat) => flat.flat_len(),
@@ -216,7 +216,8 @@ impl ArrayVar {
     /// Writes the flat bytes.
     pub fn flatten_into(&self, out: &mut [u8])
         requires { length out.old ≡ length (flat_bytes self.now) }
-        ensures { out.new ≡ flat_bytes self.now }
+        ensures written { out.new ≡ flat_bytes self.now }
+        ensures flat { IsFlat out.new }
     {
         match &self.kept {
             Kept::Flat(flat) => flat.flatten_into(out),
@@ -228,6 +229,7 @@ impl ArrayVar {
     /// array that subscript becomes the lower bound. `ArrayTooBig` names the number of elements that would be too many, and
     /// 1,048,577 for a subscript beyond 2,147,483,646. After an error nothing has changed.
     pub fn set(&mut self, sub: i32, value: Option<i32>) -> Result<(), Denied>
+        ensures held { IsHeld self.new }
         ensures ok { OnOk result (self.new ≡ array_set self.old sub value) }
         ensures fits { OnOk result (excess self.old sub ≡ None) }
         ensures denied { IfErr result (IsSetDenial (excess self.old sub)) }
@@ -269,22 +271,7 @@ fn read_array(alloc: Global, text: &[u8]) -> Result<ArrayVar, Denied>
     ensures held { IfOk result (λ a. IsHeld a) }
     ensures denied { IfErr result (IsTextDenial text.now) }
 {
-    let Ok(read) = read_text(alloc, text) else {
-        return Err(Denied::NoMemory);
-    };
-    let Some(expanded) = read else {
-        return Err(Denied::By(Refusal {
-            cause: Cause::BadArray,
-            subject: 0,
-        }));
-    };
-    let count = expanded.elements.as_slice().len();
-    if count > LIMIT {
-        return Err(Denied::By(Refusal {
-            cause: Cause::ArrayTooBig,
-            subject: count as i64,
-        }));
-    }
+    let expanded = read_text(alloc, text)?;
     match flattened(alloc, &expanded) {
         Ok(array) => Ok(array),
         Err(_) => Err(Denied::NoMemory),

@@ -1,12 +1,12 @@
 //! An array as a list of its elements.
-ghost use Rattle.std.specs.Prelude.{◌≡◌, ◌+◌, ◌-◌, ◌*◌, ◌<◌, ◌≤◌, pos, negsuc, None, OnOk, OnErr, IfOk, ◌++◌, length, take};
-ghost use Rattle.expanded_array.specs.Array.{IsHeld, array_set, element_at, elements_set, excess, index_in, limit};
+ghost use Rattle.std.specs.Prelude.{◌≡◌, ◌+◌, ◌-◌, ◌*◌, ◌<◌, ◌≤◌, pos, None, OnOk, OnErr, ◌++◌, length, take};
+ghost use Rattle.expanded_array.specs.Array.{IsHeld, array_set, element_at, excess, index_in, limit};
 ghost use Rattle.expanded_array.specs.Flat.{flat_bytes, word, numbers, presence, number_of_flags, bitmap, bitmap_len, header, data_offset, padding, int4_type};
 ghost use Rattle.expanded_array.specs.Layout.{header_len, sparse_start, first_place};
 ghost use Rattle.expanded_array.specs.Kept.{expanded_array, excess_of, size_after};
 ghost use Rattle.std.specs.Option.{option_map};
-ghost use Rattle.std.specs.Vec.{vec_len};
 
+use crate::elements::Elements;
 use crate::layout::{HEADER_LEN, INT4_TYPE, LAST_LIMIT, LIMIT, bitmap_len, sparse_start};
 use std::alloc::AllocError;
 
@@ -15,7 +15,7 @@ use std::alloc::AllocError;
 pub struct Expanded {
     /// The lower bound. It means nothing where there are no elements.
     pub lower: i32,
-    pub elements: Vec<Option<i32>>,
+    pub elements: Elements,
 }
 
 /// The index of a subscript among so many elements, where it is within the bounds.
@@ -40,7 +40,7 @@ fn put(out: &mut [u8], place: usize, piece: &[u8]) -> usize
 }
 
 /// The bits of at most 8 elements, the lowest first, set where they are not null.
-#[tactic(auto, using(crate::proofs::Elements::presence_small))]
+#[tactic(auto, using(crate::proofs::Packing::presence_small))]
 fn presence_byte(elements: &[Option<i32>]) -> u8
     requires { length elements.now ≤ 8 }
     ensures { result ≡ number_of_flags (presence elements.now) }
@@ -187,48 +187,15 @@ pub fn excess_of(sub: i32, lower: i32, count: usize) -> Option<i64>
     }
 }
 
-/// Sets an element at or above the lower bound; beyond the last one, the elements between are null.
-fn set_above(
-    elements: &mut Vec<Option<i32>>,
-    index: usize,
-    value: Option<i32>,
-) -> Result<(), AllocError>
-    requires { index < limit }
-    ensures ok { OnOk result (elements.new.items ≡ elements_set elements.old.items (pos index) value) }
-    ensures err { OnErr result (elements.new.items ≡ elements.old.items) }
-{
-    if index >= elements.len() {
-        elements.resize(index + 1, None)?;
-    }
-    elements[index] = value;
-    Ok(())
-}
-
-/// The elements with one more set so far below the first, and nulls between.
-fn set_below(
-    elements: &Vec<Option<i32>>,
-    below: usize,
-    value: Option<i32>,
-) -> Result<Vec<Option<i32>>, AllocError>
-    requires below { 0 < below }
-    requires few { below + vec_len elements.now ≤ limit }
-    ensures { IfOk result (λ v. v.items ≡ elements_set elements.now.items (negsuc (below - 1)) value) }
-{
-    let mut longer = Vec::with_capacity(*elements.allocator(), below + elements.len())?;
-    longer.push(value)?;
-    longer.resize(below, None)?;
-    longer.extend_from_slice(elements)?;
-    Ok(longer)
-}
-
 impl Expanded {
     /// The element at a subscript.
     pub fn get(&self, sub: i32) -> Option<i32>
         requires { IsHeld (expanded_array self.now) }
         ensures { result ≡ element_at (expanded_array self.now) sub }
     {
-        let index = index_of(sub, self.lower, self.elements.len())?;
-        self.elements[index]
+        let elements = self.elements.as_slice();
+        let index = index_of(sub, self.lower, elements.len())?;
+        elements[index]
     }
 
     /// The length of the flat bytes.
@@ -264,21 +231,18 @@ impl Expanded {
         ensures ok { OnOk result (expanded_array self.new ≡ array_set (expanded_array self.old) sub value) }
         ensures err { OnErr result (expanded_array self.new ≡ expanded_array self.old) }
     {
-        if self.elements.is_empty() {
-            self.elements.push(value)?;
+        if self.elements.as_slice().is_empty() {
+            self.elements.set_above(0, value)?;
             self.lower = sub;
             return Ok(());
         }
         let above = i64::from(sub) - i64::from(self.lower);
         if above < 0 {
-            let elements = set_below(&self.elements, -above as usize, value)?;
-            *self = Expanded {
-                lower: sub,
-                elements,
-            };
+            self.elements.set_below(-above as usize, value)?;
+            self.lower = sub;
             Ok(())
         } else {
-            set_above(&mut self.elements, above as usize, value)
+            self.elements.set_above(above as usize, value)
         }
     }
 }

@@ -5,6 +5,7 @@ ghost use Rattle.expanded_array.specs.Flat.{IsFlat, flat_bytes};
 ghost use Rattle.expanded_array.specs.Layout.{array_of, elements_in};
 ghost use Rattle.expanded_array.specs.Kept.{IsRead, Reads, expanded_array, flat_array, flat_elements, flat_flags, place_of};
 
+use crate::elements::Elements;
 use crate::expanded::{Expanded, index_of};
 use crate::layout::{int4_at, is_present, rank, start_in, word_at};
 use std::alloc::AllocError;
@@ -148,7 +149,7 @@ impl FlatArray {
         let elements = self.elements()?;
         Ok(Expanded {
             lower: self.lower,
-            elements,
+            elements: Elements::from_vec(elements),
         })
     }
 }

@@ -4,9 +4,10 @@
 #![tactic(auto)]
 
 mod array_var;
+mod elements;
 mod expanded;
 mod flat_array;
-mod laws;
+mod law;
 mod layout;
 mod reading;
 #[cfg(test)]
@@ -14,5 +15,8 @@ mod tests;
 mod text;
 
 pub use array_var::ArrayVar;
-pub use laws::{flat_bytes_tell, printed_text_spells, set_changes_one, text_spells_one};
+pub use law::{
+    flat_bytes_are_read, flat_bytes_tell, printed_text_spells, set_changes_one, text_spells_one,
+    texts_are_read,
+};
 pub use layout::is_flat;

@@ -1,17 +1,20 @@
 //! An array's text, read.
-ghost use Rattle.std.specs.Prelude.{◌≡◌, ◌↔◌, ◌≤ℤ◌, IsTrue, ◌^◌, ◌<◌, ◌∷◌, ℕ, Some, ◌++◌, ℤ, Option, List, length, codes, IfOk, IfSome, IfNone, MatchOption, FitsSigned};
+ghost use Rattle.std.specs.Prelude.{◌≡◌, ◌↔◌, ◌≤ℤ◌, IsTrue, ◌^◌, ◌<◌, ◌≤◌, ◌∷◌, ℕ, Some, ◌++◌, ℤ, Option, List, length, codes, if◌then◌else◌, IfOk, IfErr, IfSome, IfNone, MatchOption, FitsSigned};
 ghost use Rattle.std.specs.Int.{w32};
-ghost use Rattle.std.specs.List.{slice_split};
+ghost use Rattle.std.specs.List.{list_all, slice_split};
 ghost use Rattle.std.specs.Option.{option_copied};
-ghost use Rattle.expanded_array.specs.Spelling.{HasNoBrace, HasNoColon, SpellsElement, SpellsElements, Spells, SpellsBounded, SpellsBounds, SplitsAtBrace, is_comma, parts_behind};
-ghost use Rattle.expanded_array.specs.Text.{explicit_bounds};
-ghost use Rattle.expanded_array.specs.Array.{Array, IsArray, last_limit, last_of};
+ghost use Rattle.expanded_array.specs.Answer.{too_big};
+ghost use Rattle.expanded_array.specs.Array.{IsHeld, last_limit, last_of, limit};
 ghost use Rattle.expanded_array.specs.Kept.{expanded_array};
+ghost use Rattle.expanded_array.specs.Read.{is_element};
+ghost use Rattle.expanded_array.specs.Spelling.{HasBody, HasNoBrace, HasNoColon, IsBoundedDenial, IsTextDenial, Spells, SpellsBounded, SpellsBounds, SpellsElement, SpellsElements, SpellsNone, SplitsAtBrace, is_comma, malformed, parts_behind};
+ghost use Rattle.expanded_array.specs.Text.{explicit_bounds};
 
+use crate::elements::Elements;
 use crate::expanded::Expanded;
-use crate::layout::LAST_LIMIT;
+use crate::layout::{LAST_LIMIT, LIMIT};
 use crate::text::push_explicit_bounds;
-use lo_base::{Bytes, NoMemory};
+use lo_base::{Bytes, Cause, Denied, NoMemory, Refusal};
 use std::alloc::{AllocError, Global};
 use std::str;
 
@@ -45,11 +48,15 @@ fn split_comma(bytes: &[u8]) -> (&[u8], Option<&[u8]>)
     (bytes, None)
 }
 
-/// The elements that a text spells, joined by commas.
-fn read_elements(alloc: Global, body: &[u8]) -> Result<Option<Vec<Option<i32>>>, AllocError>
+/// The elements that a text spells, joined by commas, in a list with room for so many.
+fn read_elements(
+    alloc: Global,
+    body: &[u8],
+    count: usize,
+) -> Result<Option<Vec<Option<i32>>>, AllocError>
     ensures { IfOk result (λ o. MatchOption o ((es : List (Option ℤ)) → SpellsElements body.now es → ⊥) (λ v. SpellsElements body.now v.items)) }
 {
-    let mut elements = Vec::new(alloc);
+    let mut elements = Vec::with_capacity(alloc, count)?;
     let mut rest = body;
     loop {
         let (piece, behind) = split_comma(rest);
@@ -144,9 +151,29 @@ fn has_allowed_last(lower: i32, count: usize) -> bool
     i64::from(lower) + count as i64 - 1 <= LAST_LIMIT
 }
 
-/// The array with elements, of any number of them, that a text spells.
-fn read_bounded(alloc: Global, text: &[u8]) -> Result<Option<Expanded>, NoMemory>
-    ensures { IfOk result (λ o. MatchOption o ((lower : ℤ) (es : List (Option ℤ)) → SpellsBounded text.now lower es → ⊥) (λ e. SpellsBounded text.now e.lower e.elements.items)) }
+/// How many elements there are with commas between them.
+fn count_elements(body: &[u8]) -> usize
+    ensures { result ≡ length (slice_split is_comma body.now) }
+{
+    body.split(|byte| *byte == b',').count()
+}
+
+fn is_element(piece: &[u8]) -> bool
+    ensures { result ≡ is_element piece.now }
+{
+    read_element(piece).is_some()
+}
+
+/// Whether a text spells elements, joined by commas.
+fn are_elements(body: &[u8]) -> bool
+    ensures { result ≡ list_all is_element (slice_split is_comma body.now) }
+{
+    body.split(|byte| *byte == b',').all(|piece| is_element(piece))
+}
+
+/// The lower bound, the number of elements and the bytes between the braces, where the bounds are those of so many elements.
+fn read_bounds(alloc: Global, text: &[u8]) -> Result<Option<(i32, usize, &[u8])>, NoMemory>
+    ensures { IfOk result (λ o. MatchOption o (SpellsNone text.now) (λ p. HasBody text.now p.0 p.1 p.2.now)) }
 {
     let Some((bounds, behind)) = split_brace(text) else {
         return Ok(None);
@@ -154,10 +181,7 @@ fn read_bounded(alloc: Global, text: &[u8]) -> Result<Option<Expanded>, NoMemory
     let Some(body) = strip_brace(behind) else {
         return Ok(None);
     };
-    let Some(elements) = read_elements(alloc, body)? else {
-        return Ok(None);
-    };
-    let count = elements.as_slice().len();
+    let count = count_elements(body);
     if count >= 0x1_0000_0000 {
         return Ok(None);
     }
@@ -167,16 +191,76 @@ fn read_bounded(alloc: Global, text: &[u8]) -> Result<Option<Expanded>, NoMemory
     if !has_allowed_last(lower, count) {
         return Ok(None);
     }
-    Ok(Some(Expanded { lower, elements }))
+    Ok(Some((lower, count, body)))
 }
 
-/// The array of any number of elements that a text spells.
-pub fn read_text(alloc: Global, text: &[u8]) -> Result<Option<Expanded>, NoMemory>
-    ensures { IfOk result (λ o. MatchOption o ((a : Array) → Spells text.now a → ⊥) (λ e. Spells text.now (expanded_array e) × IsArray (expanded_array e))) }
+/// The refusal of a text that spells no array.
+fn malformed() -> Denied
+    ensures { result ≡ Denied.By malformed }
+{
+    Denied::By(Refusal {
+        cause: Cause::BadArray,
+        subject: 0,
+    })
+}
+
+/// The refusal of an array of so many elements.
+fn too_big(count: usize) -> Denied
+    requires { count < 2 ^ 32 }
+    ensures { result ≡ Denied.By (too_big count) }
+{
+    Denied::By(Refusal {
+        cause: Cause::ArrayTooBig,
+        subject: count as i64,
+    })
+}
+
+/// The array with elements that a text spells. Too many elements are counted and looked at, and not kept.
+fn read_bounded(alloc: Global, text: &[u8]) -> Result<Expanded, Denied>
+    ensures read { IfOk result (λ e. SpellsBounded text.now e.lower e.elements) }
+    ensures few { IfOk result (λ e. length e.elements ≤ limit) }
+    ensures denied { IfErr result (IsBoundedDenial text.now) }
+{
+    let Ok(found) = read_bounds(alloc, text) else {
+        return Err(Denied::NoMemory);
+    };
+    let Some((lower, count, body)) = found else {
+        return Err(malformed());
+    };
+    if count > LIMIT {
+        return Err(refusal_of(body, count));
+    }
+    let Ok(read) = read_elements(alloc, body, count) else {
+        return Err(Denied::NoMemory);
+    };
+    let Some(elements) = read else {
+        return Err(malformed());
+    };
+    let elements = Elements::from_vec(elements);
+    Ok(Expanded { lower, elements })
+}
+
+/// The refusal of a text with so many elements between its braces.
+fn refusal_of(body: &[u8], count: usize) -> Denied
+    requires { count < 2 ^ 32 }
+    ensures { result ≡ Denied.By (if list_all is_element (slice_split is_comma body.now) then too_big count else malformed) }
+{
+    if are_elements(body) {
+        too_big(count)
+    } else {
+        malformed()
+    }
+}
+
+/// The array that a text spells.
+pub fn read_text(alloc: Global, text: &[u8]) -> Result<Expanded, Denied>
+    ensures spelled { IfOk result (λ e. Spells text.now (expanded_array e)) }
+    ensures held { IfOk result (λ e. IsHeld (expanded_array e)) }
+    ensures denied { IfErr result (IsTextDenial text.now) }
 {
     if text == b"{}".as_slice() {
-        let elements = Vec::new(alloc);
-        return Ok(Some(Expanded { lower: 1, elements }));
+        let elements = Elements::from_vec(Vec::new(alloc));
+        return Ok(Expanded { lower: 1, elements });
     }
     read_bounded(alloc, text)
 }

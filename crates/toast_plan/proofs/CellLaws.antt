@@ -1,12 +1,9 @@
 -- The lengths and the tags of cells.
-use Rattle.std.proofs.Common.{◌≡◌, ℕ, zero, suc, ◌<◌, ◌≤◌, ◌^◌, List, [], ◌∷◌, length, map, get_or, Option, Some, None, refl, sym, ap, subst, ◌∙◌, arith}
-use Rattle.std.specs.Prelude.{IfSome}
-use Rattle.std.specs.List.{AllByRecursion}
-use Rattle.std.proofs.lemmas.List.Elements.{recursion_from_All}
+use Rattle.std.proofs.Common.{◌≡◌, ℕ, suc, ◌≤◌, ◌^◌, List, [], ◌∷◌, length, map, Option, Some, None, refl, sym, ap, subst, ◌∙◌, arith}
 use Rattle.lo_base.specs.declared.value.Cell.{Cell}
-use Rattle.toast_plan.specs.Rounds.{AreShort}
 use Rattle.std.proofs.Common.{Bool, ◌++◌, take, drop, length-append, length-drop}
 use Rattle.std.proofs.lemmas.List.{length-map, take_at}
+use Rattle.std.proofs.lemmas.Option.{same_Some}
 use Rattle.lo_base.specs.declared.column.Column.{Column}
 use Rattle.lo_base.specs.declared.column.ColType.{ColType}
 use Rattle.lo_base.specs.declared.column.ColType.TheVariants as types
@@ -16,14 +13,6 @@ use Rattle.toast_plan.specs.Choice.{outside_of}
 use Rattle.toast_plan.specs.Row.{Field, Null, Int, Oid, Inline, Outside, row_form, IsFieldOf, AreFields, is_null, is_outside, field_length, field_lengths, StartsWithValue, IsRow, cell_of}
 use Rattle.toast_plan.specs.Reading.{cell_length, cell_lengths, is_cell_outside, is_cell_null, StartsWithCell, AreRowCells, ReadsRow, HasNoRow, row_of, cells_front}
 use Rattle.toast_plan.proofs.ReadingLaws.{TakesAll, cells_again}
-
-by_place : (found : List Cell) (i : ℕ) (x : Cell) → AllByRecursion (λ n. IfSome n (λ b. b ≤ 2 ^ 24)) (cell_lengths found) → x ≡ get_or found i x → i < length found → IfSome (cell_length x) (λ b. b ≤ 2 ^ 24)
-by_place [] i x h is lt = absurd (omega arith)
-by_place (c ∷ found) zero x h is lt = let e : c ≡ x = sym is in subst (λ (y : Cell). IfSome (cell_length y) (λ b. b ≤ 2 ^ 24)) e h.0
-by_place (c ∷ found) (suc i) x h is lt = by_place found i x h.1 is (omega arith)
-
-pub short_at : (found : List Cell) (i : ℕ) (x : Cell) → AreShort (cell_lengths found) → x ≡ get_or found i x → i < length found → IfSome (cell_length x) (λ b. b ≤ 2 ^ 24)
-short_at found i x h is lt = by_place found i x (recursion_from_All (λ n. IfSome n (λ b. b ≤ 2 ^ 24)) (cell_lengths found) h) is lt
 
 -- ---- the cells of fields
 
@@ -148,12 +137,9 @@ pub record IsReadBack (found : List Cell) (bytes : List ℕ) (taken : ℕ) (fs :
   pub cells : found ≡ map cell_of fs
   pub rest-is : drop taken bytes ≡ rest
 
-some_pair : (a b : List Cell × List ℕ) → Some a ≡ Some b → a ≡ b
-some_pair a b e = cc
-
 pub read_back : (cs : List Column) (bytes : List ℕ) (found : List Cell) (taken : ℕ) (fs : List Field) (rest : List ℕ) → cells_front cs bytes ≡ Some (found, drop taken bytes) → IsRow cs fs → bytes ≡ row_form fs ++ rest → IsReadBack found bytes taken fs rest
 read_back cs bytes found taken fs rest read row e =
-    let same : (found, drop taken bytes) ≡ (map cell_of fs, rest) = some_pair (found, drop taken bytes) (map cell_of fs, rest) (sym read ∙ read_again cs bytes fs rest row e) in
+    let same : (found, drop taken bytes) ≡ (map cell_of fs, rest) = same_Some (found, drop taken bytes) (map cell_of fs, rest) (sym read ∙ read_again cs bytes fs rest row e) in
     record { cells = ap (λ (x : List Cell × List ℕ). x.0) same; rest-is = ap (λ (x : List Cell × List ℕ). x.1) same }
 
 -- cells that are no row's are those of no row

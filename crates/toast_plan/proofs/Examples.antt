@@ -2,17 +2,21 @@
 use Rattle.std.proofs.Common.{◌≡◌, ℕ, true, false, List, [], ◌∷◌, Option, Some, None, refl}
 use Rattle.std.specs.Prelude.{codes}
 use Rattle.lo_base.specs.declared.column.Column.{Column}
+use Rattle.lo_base.specs.declared.column.ColType.{ColType}
 use Rattle.lo_base.specs.declared.column.ColType.TheVariants as types
 use Rattle.lo_base.specs.declared.column.Storage.{Storage}
 use Rattle.lo_base.specs.declared.column.Storage.TheVariants.{Plain, External, Extended, Main}
-use Rattle.toast_plan.specs.Layout.{up_to_8, header_length, data_length}
-use Rattle.toast_plan.specs.Choice.{outside_of, planned_length}
+use Rattle.toast_plan.specs.Layout.{header_length, data_length}
+use Rattle.toast_plan.specs.Choice.{outside_of, planned_length, too_long}
 
 abbrev id : Column
 id = record { name = codes "id"; kind = types.Int8; storage = Plain }
 
 abbrev bytes_in : Storage → Column
 bytes_in storage = record { name = codes "v"; kind = types.Bytea; storage = storage }
+
+abbrev oid_in : ColType → Column
+oid_in kind = record { name = codes "o"; kind = kind; storage = Plain }
 
 -- an id and one value
 abbrev one : Storage → List Column
@@ -45,8 +49,11 @@ main_8125_moves = refl
 plain_8124_fits : planned_length (one Plain) (of_id (Some 8124 ∷ [])) ≡ 8160
 plain_8124_fits = refl
 
-plain_8125_is_too_big : up_to_8 (planned_length (one Plain) (of_id (Some 8125 ∷ []))) ≡ 8168
-plain_8125_is_too_big = refl
+plain_8124_is_not_too_long : too_long (one Plain) (of_id (Some 8124 ∷ [])) ≡ None
+plain_8124_is_not_too_long = refl
+
+plain_8125_is_too_long : too_long (one Plain) (of_id (Some 8125 ∷ [])) ≡ Some 8168
+plain_8125_is_too_long = refl
 
 -- the longest first, and no more than are needed
 the_longest_moves : outside_of (id ∷ bytes_in Extended ∷ bytes_in External ∷ bytes_in Extended ∷ []) (of_id (Some 900 ∷ Some 1000 ∷ Some 950 ∷ [])) ≡ false ∷ false ∷ true ∷ false ∷ []
@@ -63,8 +70,30 @@ small_values_stay = refl
 short_header_up_to_126 : data_length (bytes_in External ∷ bytes_in External ∷ []) (Some 126 ∷ Some 127 ∷ []) (false ∷ false ∷ []) ≡ 259
 short_header_up_to_126 = refl
 
-an_int8_is_aligned : data_length (bytes_in External ∷ id ∷ []) (Some 4 ∷ Some 8 ∷ []) (false ∷ false ∷ []) ≡ 16
-an_int8_is_aligned = refl
+-- a long header begins at a multiple of 4, which need be none of 8: behind 9 bytes at 12
+a_long_header_is_aligned_to_4 : data_length (bytes_in External ∷ bytes_in External ∷ []) (Some 8 ∷ Some 127 ∷ []) (false ∷ false ∷ []) ≡ 143
+a_long_header_is_aligned_to_4 = refl
+
+a_plain_header_is_aligned_to_4 : data_length (bytes_in External ∷ bytes_in Plain ∷ []) (Some 8 ∷ Some 1 ∷ []) (false ∷ false ∷ []) ≡ 17
+a_plain_header_is_aligned_to_4 = refl
+
+-- so do an oid and a lo
+an_oid_is_aligned_to_4 : data_length (bytes_in External ∷ oid_in types.Oid ∷ []) (Some 8 ∷ Some 4 ∷ []) (false ∷ false ∷ []) ≡ 16
+an_oid_is_aligned_to_4 = refl
+
+a_lo_is_aligned_to_4 : data_length (bytes_in External ∷ oid_in types.Lo ∷ []) (Some 8 ∷ Some 4 ∷ []) (false ∷ false ∷ []) ≡ 16
+a_lo_is_aligned_to_4 = refl
+
+-- a short header and a pointer begin anywhere
+a_short_header_is_not_aligned : data_length (bytes_in External ∷ bytes_in External ∷ []) (Some 8 ∷ Some 1 ∷ []) (false ∷ false ∷ []) ≡ 11
+a_short_header_is_not_aligned = refl
+
+a_pointer_is_not_aligned : data_length (bytes_in External ∷ bytes_in External ∷ []) (Some 8 ∷ Some 2000 ∷ []) (false ∷ true ∷ []) ≡ 27
+a_pointer_is_not_aligned = refl
+
+-- an int8 begins at a multiple of 8: behind 9 bytes at 16
+an_int8_is_aligned_to_8 : data_length (bytes_in External ∷ id ∷ []) (Some 8 ∷ Some 8 ∷ []) (false ∷ false ∷ []) ≡ 24
+an_int8_is_aligned_to_8 = refl
 
 no_null_bitmap : header_length (Some 8 ∷ Some 8 ∷ []) ≡ 24
 no_null_bitmap = refl

@@ -1,6 +1,6 @@
 pub mod Examples
 pub mod RoundLaws
-pub mod Lengths
+pub mod ValueLengths
 pub mod OutcomeLaws
 pub mod PlanLaws
 pub mod ColumnLaws
@@ -10,3 +10,4 @@ pub mod FieldSteps
 pub mod RowLaws
 pub mod ReadingLaws
 pub mod CellLaws
+pub mod RowBytes

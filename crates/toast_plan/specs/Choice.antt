@@ -1,10 +1,11 @@
 -- Which values of a row are moved out (PostgreSQL manual, section TOAST, for values that do not compress).
-use Rattle.std.specs.Prelude.{◌≡◌, ◌≤◌, take, drop, ℕ, zero, suc, ◌+◌, ◌-◌, ◌==◌, nat_le, nat_lt, Bool, true, false, not, ◌&&◌, ◌||◌, if◌then◌else◌, List, [], ◌∷◌, ◌++◌, length, count_by, replicate, Option, Some, None, option_to_list}
+use Rattle.std.specs.Prelude.{◌≡◌, ◌≤◌, take, drop, ℕ, zero, suc, ◌+◌, ◌-◌, ◌==◌, nat_le, nat_lt, Bool, true, false, not, ◌&&◌, ◌||◌, if◌then◌else◌, List, [], ◌∷◌, ◌++◌, length, count_by, replicate, Option, Some, None, option_to_list, Result, Ok, Err}
 use Rattle.std.specs.Option.{option_map_or}
 use Rattle.lo_base.specs.declared.column.Column.{Column}
 use Rattle.lo_base.specs.declared.column.Storage.{Storage}
 use Rattle.lo_base.specs.declared.column.Storage.TheVariants.{Plain, External, Extended, Main}
 use Rattle.toast_plan.specs.declared.layout.Plan.{Plan}
+use Rattle.toast_plan.specs.declared.layout.RowTooBig.{RowTooBig}
 use Rattle.toast_plan.specs.Layout.{up_to_8, value_header, data_length, header_length, row_length}
 
 -- the storages whose values the first round moves
@@ -100,6 +101,15 @@ outside_of cs ns = after_round moves_second (second_target ns) cs ns (outside_fi
 -- the row's length after the moves
 abbrev pub planned_length : List Column → List (Option ℕ) → ℕ
 planned_length cs ns = row_length cs ns (outside_of cs ns)
+
+-- the rounded length of a row that is too big, with all moved that can be. There is none where the row fits
+abbrev pub too_long : List Column → List (Option ℕ) → Option ℕ
+too_long cs ns = let size = up_to_8 (planned_length cs ns) in if nat_lt 8160 size then Some size else None
+
+-- the length that a refused plan names
+abbrev pub refused_size : Result Plan RowTooBig → Option ℕ
+refused_size (Ok p) = None
+refused_size (Err e) = Some e.size
 
 -- the plan for values of these lengths, which are not too big for a row
 pub record IsPlanFor (columns : List Column) (ns : List (Option ℕ)) (p : Plan) : Type 0 where

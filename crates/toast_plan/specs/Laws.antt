@@ -1,10 +1,14 @@
 -- What holds of every plan, said of its outcome alone.
-use Rattle.std.specs.Prelude.{◌≡◌, ◌≢◌, ℕ, ◌<◌, ◌≤◌, Bool, true, false, ◌&&◌, List, [], ◌∷◌, length, Option, Some, None, slice_get, slice_set}
+use Rattle.std.specs.Prelude.{◌≡◌, ◌≢◌, ℕ, ◌+◌, ◌<◌, ◌≤◌, ◌^◌, All, Bool, true, false, ◌&&◌, List, [], ◌∷◌, length, Option, Some, None, slice_get, slice_set}
 use Rattle.lo_base.specs.declared.column.Column.{Column}
 use Rattle.lo_base.specs.declared.column.Storage.{Storage}
 use Rattle.lo_base.specs.declared.column.Storage.TheVariants.{Plain}
-use Rattle.toast_plan.specs.Layout.{data_length}
-use Rattle.toast_plan.specs.Choice.{Candidate, moves_first, moves_second, goes_before, first_target, second_target, outside_of}
+use Rattle.lo_base.specs.declared.value.Value.{Value}
+use Rattle.toast_plan.specs.Layout.{up_to_8, data_length}
+use Rattle.toast_plan.specs.Columns.{IsTableColumns}
+use Rattle.toast_plan.specs.Choice.{Candidate, moves_first, moves_second, goes_before, first_target, second_target, outside_of, planned_length}
+use Rattle.toast_plan.specs.Row.{AreRowValues, count_outside, value_lengths}
+use Rattle.toast_plan.specs.Writing.{HasRange}
 
 -- a row's value that is not null, of a column whose storage passes the test
 pub record IsValue (moves : Storage → Bool) (cs : List Column) (ns : List (Option ℕ)) (a : Candidate) : Type 0 where
@@ -74,3 +78,13 @@ SecondEnough = (cs : List Column) (ns : List (Option ℕ)) (a : Candidate) → I
 -- each column has one mark
 abbrev pub OneMarkEach : Type 0
 OneMarkEach = (cs : List Column) (ns : List (Option ℕ)) → length (outside_of cs ns) ≡ length cs
+
+-- values that make a row of the table: they fit its columns and have numbers of their types, the row is not too big, and
+-- there are numbers for the table and for the values outside
+pub record HasRow (columns : List Column) (table first : ℕ) (values : List Value) : Type 0 where
+  pub columns_are : IsTableColumns columns
+  pub values_are : AreRowValues columns values
+  pub range : All HasRange values
+  pub fits : up_to_8 (planned_length columns (value_lengths values)) ≤ 8160
+  pub numbers : first + count_outside (outside_of columns (value_lengths values)) ≤ 2 ^ 32
+  pub table_is : table < 2 ^ 32

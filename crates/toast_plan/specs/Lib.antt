@@ -2,8 +2,8 @@ pub mod Columns
 pub mod Layout
 pub mod Choice
 pub mod Rounds
-pub mod Laws
 pub mod Pointer
 pub mod Row
 pub mod Writing
+pub mod Laws
 pub mod Reading

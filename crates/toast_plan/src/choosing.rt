@@ -1,7 +1,7 @@
 ghost use Rattle.std.specs.Prelude.{◌≡◌, ◌+◌, ◌-◌, ◌^◌, ◌<◌, ◌≤◌, ◌↔◌, length, take, drop, replicate, false, None, IsErr, IfErr, IfOk, IfSome, option_map};
 ghost use Rattle.toast_plan.specs.Columns.{IsTableColumns, AreLengths};
 ghost use Rattle.toast_plan.specs.Layout.{up_to_8, header_length};
-ghost use Rattle.toast_plan.specs.Choice.{candidate_at, candidates, after_round, outside_of, planned_length, IsPlanFor};
+ghost use Rattle.toast_plan.specs.Choice.{candidate_at, candidates, after_round, outside_of, planned_length, too_long, refused_size, IsPlanFor};
 ghost use Rattle.toast_plan.specs.Rounds.{moves_in, seen, first_of, chosen_of, AreShort};
 
 use crate::layout::{
@@ -133,6 +133,7 @@ fn mark_outside(header: u32, columns: &[Column], lengths: &[Option<u32>], outsid
 pub fn plan(columns: &[Column], lengths: &[Option<u32>]) -> Result<Plan, RowTooBig>
     requires columns { IsTableColumns columns.now }
     requires lengths { AreLengths columns.now lengths.now }
+    ensures refused { refused_size result ≡ too_long columns.now lengths.now }
     ensures too_big { IsErr result ↔ (ROW_LIMIT < up_to_8 (planned_length columns.now lengths.now)) }
     ensures rounded { IfErr result (λ e. e.size ≡ up_to_8 (planned_length columns.now lengths.now)) }
     ensures plan { IfOk result (IsPlanFor columns.now lengths.now) }

@@ -4,16 +4,18 @@
 
 mod choosing;
 mod columns;
-mod laws;
+mod law;
 mod layout;
+mod lengths;
 mod pointer;
 mod reading;
 mod writing;
 
 pub use choosing::plan;
 pub use columns::are_table_columns;
-pub use laws::plan_laws;
-pub use layout::{Plan, ROW_LIMIT, RowTooBig};
+pub use law::{plan_laws, rows_are_told, rows_of_values};
+pub use layout::{COLUMN_LIMIT, Plan, ROW_LIMIT, RowTooBig};
+pub use lengths::lengths_of;
 pub use pointer::{Pointer, VALUE_LIMIT, pointer_bytes, read_pointer};
 pub use reading::{ReadRow, read_row};
 pub use writing::{ROW_ROOM, row_bytes};

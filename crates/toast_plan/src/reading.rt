@@ -58,20 +58,15 @@ fn oid_front(bytes: &[u8]) -> Result<(Cell, usize), Stop>
     ensures read { Gives (λ x. (x.0, drop x.1 bytes.now)) result (oid_front bytes.now) }
     ensures within { IfOk result (λ x. x.1 ≤ length bytes.now) }
 {
-    match u32_front(bytes) {
-        Ok((number, _)) => Ok((Cell::Oid(number), 4)),
-        Err(stop) => Err(stop),
-    }
+    let (number, _) = u32_front(bytes)?;
+    Ok((Cell::Oid(number), 4))
 }
 
 fn inline_front(alloc: Global, bytes: &[u8]) -> Result<(Cell, usize), Stop>
     ensures read { Gives (λ x. (x.0, drop x.1 bytes.now)) result (inline_front bytes.now) }
     ensures within { IfOk result (λ x. x.1 ≤ length bytes.now) }
 {
-    let (length, rest) = match u32_front(bytes) {
-        Ok(found) => found,
-        Err(stop) => return Err(stop),
-    };
+    let (length, rest) = u32_front(bytes)?;
     let count = length as usize;
     if length > VALUE_LIMIT || rest.len() < count {
         return Err(Stop::NoRow);
@@ -143,10 +138,8 @@ fn cell_front(alloc: Global, kind: ColType, bytes: &[u8]) -> Result<(Cell, usize
     let [tag, rest @ ..] = bytes else {
         return Err(Stop::NoRow);
     };
-    match tagged_front(alloc, kind, *tag, rest) {
-        Ok((cell, taken)) => Ok((cell, taken + 1)),
-        Err(stop) => Err(stop),
-    }
+    let (cell, taken) = tagged_front(alloc, kind, *tag, rest)?;
+    Ok((cell, taken + 1))
 }
 
 /// The cells of the columns at the front of the bytes, and how many bytes they take.
@@ -158,10 +151,7 @@ fn read_cells(alloc: Global, columns: &[Column], bytes: &[u8]) -> Result<(Cells,
     let mut at = 0;
     for column in columns {
         let (_, rest) = bytes.split_at(at);
-        let (cell, taken) = match cell_front(alloc, column.kind, rest) {
-            Ok(found) => found,
-            Err(stop) => return Err(stop),
-        };
+        let (cell, taken) = cell_front(alloc, column.kind, rest)?;
         if cells.push(cell).is_err() {
             return Err(Stop::NoMemory);
         }

@@ -1,5 +1,5 @@
-ghost use Rattle.std.specs.Prelude.{◌≡◌, ◌↔◌, IsTrue, length};
-ghost use Rattle.toast_plan.specs.Row.{FitsType, FitColumns, StartsWithId, value_length, value_lengths};
+ghost use Rattle.std.specs.Prelude.{◌↔◌, IsTrue};
+ghost use Rattle.toast_plan.specs.Row.{FitsType, FitColumns, StartsWithId};
 ghost use Rattle.toast_plan.specs.Columns.{AreLengths, HasLengthIfThere};
 
 use super::*;
@@ -134,51 +134,23 @@ fn starts_with_id(values: &[Value]) -> bool
     }
 }
 
-fn has_own_length(value: &Value, length: Option<u32>) -> bool
-    ensures { IsTrue result → value_length value.now ≡ length }
-{
-    match (value, length) {
-        (Value::Null, None) => true,
-        (Value::Int(_), Some(n)) => n == 8,
-        (Value::Oid(_), Some(n)) => n == 4,
-        (Value::Bytes(bytes), Some(n)) => bytes.items().len() == n as usize,
-        (_, _) => false,
-    }
-}
-
-fn have_lengths(values: &[Value], lengths: &[Option<u32>]) -> bool
-    ensures { IsTrue result → value_lengths values.now ≡ lengths.now }
-{
-    if values.len() != lengths.len() {
-        return false;
-    }
-    for (place, value) in values.iter().enumerate() {
-        if !has_own_length(value, lengths[place]) {
-            return false;
-        }
-    }
-    true
-}
-
 /// What `row_bytes` writes for the values, and that `read_row` takes it all and nothing behind it.
 fn check_row(
     rt: &impl Abort,
     alloc: Global,
     kinds: &[(ColType, Storage)],
     values: &[Value],
-    lengths: &[Option<u32>],
     want: &[u8],
 ) -> Result<(), Fail> {
     let table = columns_of(alloc, kinds)?;
     let columns = table.as_slice();
     assert!(rt; are_table_columns(columns));
-    assert!(rt; are_lengths(columns, lengths));
-    assert!(rt; columns.len() <= 32);
+    assert!(rt; columns.len() <= COLUMN_LIMIT);
     assert!(rt; fit_columns(columns, values));
     assert!(rt; starts_with_id(values));
-    assert!(rt; have_lengths(values, lengths));
+    let lengths = lengths_of(columns, values);
     let mut out = [7; ROW_ROOM];
-    match plan(columns, lengths) {
+    match plan(columns, &lengths[..columns.len()]) {
         Ok(plan) => {
             let taken = row_bytes(columns, values, &plan, 1, 1, &mut out);
             assert_eq!(rt; out.get(..taken), Some(want));
@@ -203,7 +175,6 @@ fn rows_written_and_read(rt: HostRuntime) -> Result<(), Fail> {
         alloc,
         &[ID, EXTERNAL],
         &values,
-        &[Some(8), Some(1997)],
         &want,
     )?;
     let text = Value::Bytes(ListOf::from_slice(alloc, b"ab")?);
@@ -217,7 +188,6 @@ fn rows_written_and_read(rt: HostRuntime) -> Result<(), Fail> {
         alloc,
         &[ID, MAIN, OID, EXTENDED],
         &values,
-        &[Some(8), None, Some(4), Some(2)],
         &want,
     )
 }
@@ -329,6 +299,35 @@ fn sizes_at_the_edges(rt: HostRuntime) -> Result<(), Fail> {
         Ok((171, &[])),
     )?;
     check_plan(&rt, alloc, &[ID, PLAIN], &[id, Some(126)], Ok((162, &[])))?;
+    // A long header begins at a multiple of 4: behind 17 bytes at 20, and not at 24.
+    check_plan(
+        &rt,
+        alloc,
+        &[ID, EXTERNAL, EXTERNAL],
+        &[id, Some(8), Some(127)],
+        Ok((175, &[])),
+    )?;
+    check_plan(
+        &rt,
+        alloc,
+        &[ID, EXTERNAL, PLAIN],
+        &[id, Some(8), Some(1)],
+        Ok((49, &[])),
+    )?;
+    check_plan(
+        &rt,
+        alloc,
+        &[ID, EXTERNAL, OID],
+        &[id, Some(8), Some(4)],
+        Ok((48, &[])),
+    )?;
+    check_plan(
+        &rt,
+        alloc,
+        &[ID, EXTERNAL, INT8],
+        &[id, Some(8), id],
+        Ok((56, &[])),
+    )?;
     // Numbers are aligned, behind an odd value and behind a pointer.
     check_plan(
         &rt,
@@ -437,6 +436,30 @@ fn rounds(rt: HostRuntime) -> Result<(), Fail> {
     lengths[0] = id;
     let places = [1, 2, 3, 4, 5, 6, 7, 8, 9, 10, 11, 12, 13, 14];
     check_plan(&rt, alloc, &kinds, &lengths, Ok((2001, &places)))
+}
+
+#[test]
+fn lengths_of_values(rt: HostRuntime) -> Result<(), Fail> {
+    let alloc = rt.alloc();
+    let columns = columns_of(alloc, &[ID, MAIN, OID, EXTENDED])?;
+    let text = Value::Bytes(ListOf::from_slice(alloc, b"ab")?);
+    let values = [Value::Int(-2), Value::Null, Value::Oid(17000), text];
+    assert!(rt; columns.len() <= COLUMN_LIMIT);
+    assert!(rt; fit_columns(&columns, &values));
+    let lengths = lengths_of(&columns, &values);
+    let mut want = [None; COLUMN_LIMIT];
+    want[0] = Some(8);
+    want[2] = Some(4);
+    want[3] = Some(2);
+    assert_eq!(rt; lengths, want);
+    Ok(())
+}
+
+#[test]
+fn laws_are_called() {
+    plan_laws();
+    rows_of_values();
+    rows_are_told();
 }
 
 #[test]

@@ -1,6 +1,6 @@
 use Rattle.std.proofs.Common.{◌+◌, ◌-◌, ◌*◌, arith, sym, ap, ◌∙◌, ◌++◌, ◌∷◌, [], List, ℕ, length, take, drop, append_assoc}
 use Rattle.expanded_array.specs.Flat.{presence, number_of_flags, bitmap_len, low_bytes}
-use Rattle.expanded_array.proofs.Elements.{bitmap_more}
+use Rattle.expanded_array.proofs.Packing.{bitmap_more}
 use Rattle.expanded_array.proofs.expanded.put_bitmap.Goals as goal
 
 pub loop-index-preserved : goal.loop-index-preserved

@@ -3,7 +3,7 @@ use Rattle.std.proofs.lemmas.List.{take-replicate, drop-replicate, take_at, drop
 use Rattle.std.proofs.Common.{take, ◌++◌, ◌+◌, ap, refl}
 use Rattle.toast_plan.specs.Layout.{up_to_8, data_length}
 use Rattle.toast_plan.specs.Choice.{outside_of, planned_length}
-use Rattle.toast_plan.proofs.Lengths.{length_same, are_short}
+use Rattle.toast_plan.proofs.ValueLengths.{length_same, are_short}
 use Rattle.toast_plan.proofs.choosing.plan.Goals as goal
 
 pub header_length-header-requires : goal.header_length-header-requires

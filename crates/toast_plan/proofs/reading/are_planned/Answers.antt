@@ -1,5 +1,5 @@
 use Rattle.toast_plan.specs.Reading.{cell_lengths}
-use Rattle.toast_plan.proofs.Lengths.{are_short}
+use Rattle.toast_plan.proofs.ValueLengths.{are_short}
 use Rattle.toast_plan.proofs.reading.are_planned.Goals as goal
 
 pub put_lengths-requires-clause-short : goal.put_lengths-requires-clause-short

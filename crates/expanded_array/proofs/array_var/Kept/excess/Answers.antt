@@ -25,6 +25,6 @@ returns-in-Elements c =
     c.excess_of-in-Elements.ensures
     ∙ ap (λ o. option_map (λ n. pos n) o)
     (ap₂ (λ s l. excess_of s l (length c.as_slice-elements.result.now)) (to_z-of_z w32 c.args.sub c.ranges.sub) (to_z-of_z w32 c.in-Elements.expanded.lower lower)
-    ∙ ap (λ es. excess_of c.args.sub c.in-Elements.expanded.lower (length es)) c.as_slice-elements.ensures.value
-    ∙ sym (excess_is c.in-Elements.expanded.lower c.in-Elements.expanded.elements.items c.args.sub)
+    ∙ ap (λ es. excess_of c.args.sub c.in-Elements.expanded.lower (length es)) c.as_slice-elements.ensures
+    ∙ sym (excess_is c.in-Elements.expanded.lower c.in-Elements.expanded.elements c.args.sub)
     ∙ ap (λ k. excess (kept_array k) c.args.sub) (sym c.in-Elements.is))

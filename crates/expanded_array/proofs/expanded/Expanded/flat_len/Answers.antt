@@ -8,4 +8,4 @@ pub returns : goal.returns
 returns c =
     ap (λ k. k + 4 * c.present-present.result) c.first_place.ensures
     ∙ flat_length c.args.self.now.lower c.as_slice-elements.result.now c.present-present.result c.present-present.ensures.len
-    ∙ ap (λ es. length (flat_bytes (array_of c.args.self.now.lower es))) c.as_slice-elements.ensures.value
+    ∙ ap (λ es. length (flat_bytes (array_of c.args.self.now.lower es))) c.as_slice-elements.ensures

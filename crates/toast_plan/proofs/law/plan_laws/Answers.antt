@@ -1,5 +1,5 @@
 use Rattle.toast_plan.proofs.PlanLaws.{length_outside, small_stay_holds, nulls_stay_holds, plain_stay_holds, longer_first_holds, longer_second_holds, first_needed_holds, second_needed_holds, first_enough_holds, second_enough_holds}
-use Rattle.toast_plan.proofs.laws.plan_laws.Goals as goal
+use Rattle.toast_plan.proofs.law.plan_laws.Goals as goal
 
 pub returns : goal.returns
 returns c = record {
