@@ -14,7 +14,8 @@ use Rattle.lo_model.specs.declared.owner.Owner.TheVariants.{Running, Committed}
 use Rattle.lo_model.specs.Edit.{Deed, Create, Write, Edit}
 use Rattle.lo_model.specs.Opening.{opened}
 use Rattle.lo_machine.specs.Run.{replies_of, end_of, empty_database}
-use Rattle.lo_machine.specs.Step.{State, state_after}
+use Rattle.lo_machine.specs.State.{State}
+use Rattle.lo_machine.specs.Step.{state_after}
 
 abbrev refused : Cause → (subject : ℕ) → Reply
 refused cause subject = Refused (record { cause = cause; subject = pos subject })
@@ -208,10 +209,3 @@ open_edits = refl
 committed_edits : edits_of (replicate 6 1)
     ≡ record { clock = 1; owner = Committed 1; deed = Create 5 } ∷ record { clock = 3; owner = Committed 6; deed = Write 5 3 (65 ∷ []) } ∷ record { clock = 5; owner = Committed 6; deed = Create 6 } ∷ []
 committed_edits = refl
-
--- no request so far changes tables or the counter
-tables_stay : (st : State) (s : ℕ) (request : Request) → (state_after st s request).database.tables ≡ st.database.tables
-tables_stay st s request = refl
-
-counter_stays : (st : State) (s : ℕ) (request : Request) → (state_after st s request).database.counter ≡ st.database.counter
-counter_stays st s request = refl

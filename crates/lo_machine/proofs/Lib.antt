@@ -3,6 +3,7 @@ pub mod Changing
 mod Examples
 pub mod Keeping
 pub mod Laying
+pub mod Lines
 pub mod Naming
 pub mod Orders
 pub mod Replaying

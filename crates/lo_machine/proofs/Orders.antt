@@ -1,14 +1,19 @@
 -- The schedule of an order is whole.
-use Rattle.std.proofs.Common.{◌≡◌, ◌≢◌, inl, inr, cond, ℕ, ◌+◌, ◌<◌, ◌≤◌, ◌==◌, List, [], ◌∷◌, length, Option, Some, None, refl, ap, ◌∙◌, arith}
+use Rattle.std.proofs.Common.{◌≡◌, ◌≢◌, inl, inr, cond, ℕ, ◌+◌, ◌<◌, ◌≤◌, ◌==◌, List, [], ◌∷◌, ◌++◌, length, Option, Some, None, refl, ap, sym, ◌∙◌, subst, arith}
 use Rattle.std.specs.Prelude.{slice_get, IsSome, All, count_by}
 use Rattle.std.proofs.lemmas.Bool.{cases_eq}
 use Rattle.std.proofs.lemmas.List.Sums.{sum_by-cons}
 use Rattle.std.proofs.lemmas.Bool.Decides.{nat_tests}
-use Rattle.std.proofs.lemmas.List.Elements.{All-head, All-tail}
+use Rattle.std.proofs.lemmas.List.Elements.{All-head, All-tail, All-nil, All-append, All-weaker}
 use Rattle.std.proofs.lemmas.Option.{slice_get_past, slice_get-get_or}
 use Rattle.lo_base.specs.declared.request.Request.{Request}
 use Rattle.lo_machine.specs.Program.{program_of}
-use Rattle.lo_machine.specs.Run.{Moment, start, next_line, one_more, moment_after, end_from, IsPlayable, IsWhole, IsOrderOf, schedule_of}
+use Rattle.lo_machine.specs.Run.{Moment, start, next_line, one_more, moment_after, end_from, IsPlayable, IsWholeFrom, IsWhole, IsOrderOf, acts_before, line_schedule, schedule_of_line, schedule_from, schedule_of}
+use Rattle.lo_machine.proofs.Lines.{Runs, line_runs}
+
+record IsThe {X : Type 0} (line : Option X) : Type 0 where
+  item : X
+  is : line ≡ Some item
 
 -- what is left of the order names each session once for each line left
 abbrev Covers : List (List Request) → Moment → List ℕ → Type 0
@@ -34,34 +39,53 @@ done_here s t count same = grind (arith, nat_tests, same)
 done_elsewhere : (s t : ℕ) (count : ℕ → ℕ) → t ≢ s → one_more t count s ≡ count s
 done_elsewhere s t count other = grind (arith, nat_tests, other)
 
-covered_more : (programs : List (List Request)) (m : Moment) (t : ℕ) (rest : List ℕ) (line : Option Request) → IsSome line → Covers programs m (t ∷ rest) → Covers programs (moment_after m t line) rest
-covered_more programs m t rest None some h s low = absurd (grind (arith, some))
-covered_more programs m t rest (Some request) some h s low = elim (cases_eq t s) [
-  | inl same ↦ omega (arith, h s low, count_here s t rest same, done_here s t m.lines_done same)
-  | inr other ↦ omega (arith, h s low, count_elsewhere s t rest other, done_elsewhere s t m.lines_done other)
+-- once a line is over, its session has one line less to do
+covered_more : (programs : List (List Request)) (m after : Moment) (t : ℕ) (rest : List ℕ) → ((s : ℕ) → after.lines_done s ≡ one_more t m.lines_done s) → Covers programs m (t ∷ rest) → Covers programs after rest
+covered_more programs m after t rest over h s low = elim (cases_eq t s) [
+  | inl same ↦ omega (arith, h s low, over s, count_here s t rest same, done_here s t m.lines_done same)
+  | inr other ↦ omega (arith, h s low, over s, count_elsewhere s t rest other, done_elsewhere s t m.lines_done other)
 ]
 
 left_here : (programs : List (List Request)) (m : Moment) (t : ℕ) (rest : List ℕ) → 1 ≤ t → Covers programs m (t ∷ rest) → IsSome (next_line programs m t)
 left_here programs m t rest low h = some_line (program_of programs t) (m.lines_done t) (omega (arith, h t low, count_here t t rest refl))
 
-playable : (programs : List (List Request)) (m : Moment) (rest : List ℕ) → All (λ s. 1 ≤ s) rest → Covers programs m rest → IsPlayable programs m rest
-playable programs m [] low h = tt
-playable programs m (t ∷ rest) low h =
-    let here = left_here programs m t rest (All-head (λ s. 1 ≤ s) t rest low) h in
-    (here, playable programs (moment_after m t (next_line programs m t)) rest (All-tail (λ s. 1 ≤ s) t rest low) (covered_more programs m t rest (next_line programs m t) here h))
+the_line : {X : Type 0} (line : Option X) → IsSome line → IsThe line
+the_line None some = absurd (grind (arith, some))
+the_line (Some x) some = record { item = x; is = refl }
 
-complete : (programs : List (List Request)) (m : Moment) (rest : List ℕ) → All (λ s. 1 ≤ s) rest → Covers programs m rest → (s : ℕ) → 1 ≤ s → next_line programs (end_from programs m rest) s ≡ None
-complete programs m [] low h s positive = slice_get_past (program_of programs s) (m.lines_done s) (omega (arith, h s positive))
-complete programs m (t ∷ rest) low h s positive =
-    let here = left_here programs m t rest (All-head (λ s. 1 ≤ s) t rest low) h in
-    complete programs (moment_after m t (next_line programs m t)) rest (All-tail (λ s. 1 ≤ s) t rest low) (covered_more programs m t rest (next_line programs m t) here h) s positive
+-- one line of the order
+runs_here : (programs : List (List Request)) (m : Moment) (t : ℕ) (rest : List ℕ) → 1 ≤ t → Covers programs m (t ∷ rest) → Runs programs m t (schedule_of_line programs m t)
+runs_here programs m t rest low h =
+    let line = the_line (next_line programs m t) (left_here programs m t rest low h) in
+    subst (λ (l : Option Request). Runs programs m t (line_schedule (acts_before (m.state.players t).sweep) programs m t l)) (sym line.is)
+    (line_runs (acts_before (m.state.players t).sweep) programs m t line.item line.is (omega arith))
+
+end_append : (programs : List (List Request)) (m : Moment) (xs ys : List ℕ) → end_from programs m (xs ++ ys) ≡ end_from programs (end_from programs m xs) ys
+end_append programs m [] ys = refl
+end_append programs m (x ∷ xs) ys = end_append programs (moment_after m x (next_line programs m x)) xs ys
+
+playable_append : (programs : List (List Request)) (m : Moment) (xs ys : List ℕ) → IsPlayable programs m xs → IsPlayable programs (end_from programs m xs) ys → IsPlayable programs m (xs ++ ys)
+playable_append programs m [] ys first then = then
+playable_append programs m (x ∷ xs) ys first then = (first.0, playable_append programs (moment_after m x (next_line programs m x)) xs ys first.1 then)
+
+pub whole_from : (programs : List (List Request)) (m : Moment) (order : List ℕ) → All (λ s. 1 ≤ s) order → Covers programs m order → IsWholeFrom programs m (schedule_from programs m order)
+whole_from programs m [] low h = record {
+  sessions = All-nil (λ s. 1 ≤ s);
+  playable = tt;
+  complete = λ s positive. slice_get_past (program_of programs s) (m.lines_done s) (omega (arith, h s positive));
+}
+whole_from programs m (t ∷ rest) low h =
+    let first : 1 ≤ t = All-head (λ s. 1 ≤ s) t rest low in
+    let runs = runs_here programs m t rest first h in
+    let more = whole_from programs (end_from programs m (schedule_of_line programs m t)) rest (All-tail (λ s. 1 ≤ s) t rest low) (covered_more programs m (end_from programs m (schedule_of_line programs m t)) t rest runs.over h) in
+    record {
+      sessions = All-append (λ s. 1 ≤ s) (schedule_of_line programs m t) _ (All-weaker (λ s. s ≡ t) (λ s. 1 ≤ s) (λ s same. subst (λ (n : ℕ). 1 ≤ n) (sym same) first) (schedule_of_line programs m t) runs.sessions) more.sessions;
+      playable = playable_append programs m (schedule_of_line programs m t) _ runs.playable more.playable;
+      complete = λ s positive. ap (λ (end : Moment). next_line programs end s) (end_append programs m (schedule_of_line programs m t) _) ∙ more.complete s positive;
+    }
 
 covered_at_start : (programs : List (List Request)) (order : List ℕ) → IsOrderOf programs order → Covers programs start order
 covered_at_start programs order by s low = omega (arith, by.lines s low)
 
-pub whole : (programs : List (List Request)) (order : List ℕ) → IsOrderOf programs order → IsWhole programs (schedule_of order)
-whole programs order by = record {
-  sessions = by.sessions;
-  playable = playable programs start order by.sessions (covered_at_start programs order by);
-  complete = complete programs start order by.sessions (covered_at_start programs order by);
-}
+pub whole : (programs : List (List Request)) (order : List ℕ) → IsOrderOf programs order → IsWhole programs (schedule_of programs order)
+whole programs order by = whole_from programs start order by.sessions (covered_at_start programs order by)

@@ -1,19 +1,67 @@
 -- One advance more keeps a run's replay.
 use Rattle.std.proofs.Common.{◌≡◌, ◌≢◌, ℕ, ◌+◌, ◌<◌, ◌≤◌, List, [], ◌∷◌, ◌++◌, length, set, get_or, Some, refl, ap, sym, ◌∙◌, subst, arith, append_assoc, append-nil, length-set, length-append, false, true, inl, inr}
-use Rattle.std.specs.Prelude.{slice_get, IsSome}
+use Rattle.std.specs.Prelude.{slice_get, IsSome, Bool, if◌then◌else◌}
 use Rattle.std.proofs.lemmas.Bool.{cases_eq, false≢true}
 use Rattle.std.proofs.lemmas.Bool.Decides.{nat_tests}
 use Rattle.std.proofs.lemmas.List.{get_or-set_same, get_or-set_other}
 use Rattle.std.proofs.lemmas.Option.{slice_get_within, slice_get_past}
 use Rattle.lo_base.specs.declared.reply.Reply.{Reply}
 use Rattle.lo_base.specs.declared.request.Request.{Request}
+use Rattle.lo_base.specs.declared.request.Request.TheVariants.{Finish, LoCreat, LoOpen, LoClose, LoRead, LoWrite, LoLseek, LoLseek64, LoTell, LoTell64, LoTruncate, LoTruncate64, LoUnlink, LoFromBytea, CreateTable, Insert, Update, Delete, Get, Ids, Slice, Declare, Fetch, Close, Rewrite, Array, Load, Set, Elem, Show, Vacuumlo, Begin, Commit, Rollback, Savepoint, Release, RollbackTo, Vacuum, Step, LoCreate, LoPut, LoGet}
+use Rattle.lo_machine.specs.Served.{IsServed}
+use Rattle.lo_machine.specs.State.{State}
 use Rattle.lo_machine.specs.declared.running.Running.TheInside.{Inside}
 use Rattle.lo_machine.specs.Engine.{StandsFor, steps_of}
 use Rattle.lo_machine.specs.Program.{program_of}
 use Rattle.lo_machine.specs.Replay.{Play, Replays, Advances, moment_of}
-use Rattle.lo_machine.specs.Run.{Moment, start, next_line, one_more, moment_after, replies_at, replies_from, end_from, replies_of}
+use Rattle.lo_machine.specs.Run.{Moment, start, next_line, one_more, stays_at_line, moment_after, replies_at, replies_from, end_from, replies_of}
 use Rattle.lo_machine.specs.Running.{play_of, IsReplay}
-use Rattle.lo_machine.specs.Plain.{reply_to, state_after}
+use Rattle.lo_machine.specs.Step.{reply_to, state_after}
+
+-- a request that is served is no finish, so its line is over after one advance
+pub moves_on : (st : State) (s : ℕ) (request : Request) → IsServed request → stays_at_line st s request ≡ false
+moves_on st s Finish served = absurd served
+moves_on st s (LoCreat a) served = refl
+moves_on st s (LoOpen a b) served = refl
+moves_on st s (LoClose a) served = refl
+moves_on st s (LoRead a b) served = refl
+moves_on st s (LoWrite a b) served = refl
+moves_on st s (LoLseek a b c) served = refl
+moves_on st s (LoLseek64 a b c) served = refl
+moves_on st s (LoTell a) served = refl
+moves_on st s (LoTell64 a) served = refl
+moves_on st s (LoTruncate a b) served = refl
+moves_on st s (LoTruncate64 a b) served = refl
+moves_on st s (LoUnlink a) served = refl
+moves_on st s (LoFromBytea a b) served = refl
+moves_on st s (CreateTable a b) served = refl
+moves_on st s (Insert a b) served = refl
+moves_on st s (Update a b c) served = refl
+moves_on st s (Delete a b) served = refl
+moves_on st s (Get a b) served = refl
+moves_on st s (Ids a) served = refl
+moves_on st s (Slice a b c d e) served = refl
+moves_on st s (Declare a b c) served = refl
+moves_on st s (Fetch a b c d) served = refl
+moves_on st s (Close a) served = refl
+moves_on st s (Rewrite a b) served = refl
+moves_on st s (Array a b) served = refl
+moves_on st s (Load a b c d) served = refl
+moves_on st s (Set a b c) served = refl
+moves_on st s (Elem a b) served = refl
+moves_on st s (Show a) served = refl
+moves_on st s (Vacuumlo a b) served = refl
+moves_on st s Begin served = refl
+moves_on st s Commit served = refl
+moves_on st s Rollback served = refl
+moves_on st s (Savepoint a) served = refl
+moves_on st s (Release a) served = refl
+moves_on st s (RollbackTo a) served = refl
+moves_on st s Vacuum served = refl
+moves_on st s Step served = refl
+moves_on st s (LoCreate a) served = refl
+moves_on st s (LoPut a b c) served = refl
+moves_on st s (LoGet a b c) served = refl
 
 end_more : (programs : List (List Request)) (m : Moment) (schedule : List ℕ) (s : ℕ) → end_from programs m (schedule ++ s ∷ []) ≡ moment_after (end_from programs m schedule) s (next_line programs (end_from programs m schedule) s)
 end_more programs m [] s = refl
@@ -47,6 +95,7 @@ pub record AdvancedBy (s place : ℕ) (request : Request) (reply : Reply) (old n
   pub answer : reply ≡ reply_to (moment_of (play_of old)).state s request
   pub stands : StandsFor new.engine (state_after (moment_of (play_of old)).state s request)
   pub found : old.engine.is_lost ≡ false
+  pub moves : stays_at_line (moment_of (play_of old)).state s request ≡ false
   pub steps : steps_of new.engine ≡ steps_of old.engine + 1
 
 moment_more : (s place : ℕ) (request : Request) (reply : Reply) (old new : Inside) → AdvancedBy s place request reply old new → moment_of (play_of new) ≡ moment_after (moment_of (play_of old)) s (Some request)
@@ -88,7 +137,10 @@ advanced s place request reply old new keeps by = record {
   steps = λ found. rw (by.schedule, length-append old.schedule.items (s ∷ []), by.steps, keeps.steps by.found) refl;
   sessions = rw (by.lines_done, length-set) keeps.sessions;
   within = within_at s place request reply old new keeps by;
-  lines_done = λ p low. done_at s place request reply old new keeps by p low ∙ ap (λ (m : Moment). m.lines_done (p + 1)) (sym (moment_more s place request reply old new by));
+  lines_done = λ p low.
+      done_at s place request reply old new keeps by p low
+      ∙ ap (λ (b : Bool). (if b then (moment_of (play_of old)).lines_done else one_more s (moment_of (play_of old)).lines_done) (p + 1)) (sym by.moves)
+      ∙ ap (λ (m : Moment). m.lines_done (p + 1)) (sym (moment_more s place request reply old new by));
 }
 
 -- what contracts see of it
@@ -114,7 +166,10 @@ same_play old new by = rw (by.programs, by.schedule, by.replies) refl
 pub stayed : (old new : Inside) → IsReplay old → StaysBy old new → IsReplay new
 stayed old new keeps by = record {
   replays = subst Replays (sym (same_play old new by)) keeps.replays;
-  stands = record { told = λ found. absurd (false≢true (sym found ∙ by.lost)) };
+  stands = record {
+    told = λ found. absurd (false≢true (sym found ∙ by.lost));
+    uncounted = ap (λ (play : Play). (moment_of play).state.blocks) (same_play old new by) ∙ keeps.stands.uncounted;
+  };
   steps = λ found. absurd (false≢true (sym found ∙ by.lost));
   sessions = ap (λ (xs : List ℕ). length xs) by.lines_done ∙ keeps.sessions;
   within = λ p low. rw (by.lines_done, by.programs) (keeps.within p low);

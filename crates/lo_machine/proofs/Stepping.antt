@@ -52,11 +52,13 @@ step_ok : (old mid after : Engine) (s : ℕ) (request : Request) (reply : Reply)
 step_ok old mid after s request reply served found ticks history does st stands =
     let ticked : KeepsAt mid (plain_of st) = keeps_ticked old mid st.advances st.database.edits (transactions_of st) (stands.told found) ticks history in
     let done = does.does (plain_of st) ticked in
-    let same = serving st s request served stands.uncounted in
-    (done.0 ∙ same.reply, record {
-      told = λ _. keeps_marked after false _ _ _ (keeps_as after _ _ _ _ _ same.edits (one_by_one st s _ _ same.block) done.1);
-      uncounted = stands.uncounted;
-    })
+    let same = serving st s request served stands.uncounted in (
+      done.0 ∙ same.reply,
+      record {
+        told = λ _. keeps_marked after false _ _ _ (keeps_as after _ _ _ _ _ same.edits (one_by_one st s _ _ same.block) done.1);
+        uncounted = stands.uncounted;
+      },
+    )
 
 pub serves : (old mid after : Engine) (s : ℕ) (request : Request) (result : Result Reply NoMemory) → IsServed request → old.is_lost ≡ false → Ticks old.blocks mid.blocks → mid.history ≡ old.history → IfOk result (Does mid after s (λ st. outcome st s request)) → Serves old (marked after (is_err result)) s request result
 serves old mid after s request (Ok reply) served found ticks history does = record {

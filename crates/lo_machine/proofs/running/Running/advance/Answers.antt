@@ -8,7 +8,7 @@ use Rattle.lo_machine.specs.Program.{program_of}
 use Rattle.lo_machine.specs.Replay.{Play, HasLine, moment_of}
 use Rattle.lo_machine.specs.Run.{next_line}
 use Rattle.lo_machine.specs.Running.{play_of}
-use Rattle.lo_machine.proofs.Replaying.{AdvancedBy, advanced, stayed, advances, slice_get_some_within}
+use Rattle.lo_machine.proofs.Replaying.{AdvancedBy, moves_on, advanced, stayed, advances, slice_get_some_within}
 use Rattle.lo_machine.proofs.running.Running.advance.Goals as goal
 
 pub invariant_of-self-in_err-reply : goal.invariant_of-self-in_err-reply
@@ -49,6 +49,7 @@ changed c =
       answer = (c.in_ok-reply.ensures.ok _ c.self.invariant.stands).0;
       stands = (c.in_ok-reply.ensures.ok _ c.self.invariant.stands).1;
       found = c.in_ok-reply.ensures.steps.0;
+      moves = moves_on (moment_of (play_of c.self.inside)).state c.args.s c.index-lines-done.result (search rules);
       steps = c.in_ok-reply.ensures.steps.2;
     }
 
