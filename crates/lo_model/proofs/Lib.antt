@@ -1,4 +1,5 @@
 mod Examples
 pub mod HeldLaws
 pub mod ListingLaws
+mod SessionExamples
 pub mod TouchLaws

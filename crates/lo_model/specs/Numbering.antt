@@ -1,6 +1,6 @@
 -- Numbers for new objects. (Manual, Large Objects, Client Interfaces, lo_creat: an unused one is assigned. Which one is this
 -- project's own rule.)
-use Rattle.std.specs.Prelude.{ℕ, zero, suc, ◌+◌, ◌-◌, ◌==◌, Bool, true, false, not, ◌&&◌, List, Option, Some, None, if◌then◌else◌}
+use Rattle.std.specs.Prelude.{ℕ, zero, suc, ◌+◌, ◌-◌, ◌==◌, Bool, true, false, not, ◌&&◌, nat_lt, List, Option, Some, None}
 use Rattle.std.specs.List.{list_any}
 use Rattle.lo_model.specs.declared.owner.Owner.{Owner}
 use Rattle.lo_model.specs.declared.owner.Owner.TheVariants.{Running, Committed}
@@ -34,11 +34,17 @@ has_open_edit o edits = list_any (λ (e : Edit Deed). is_running e.owner && is_o
 abbrev pub is_free_oid : (now : ℕ) → List (Edit Deed) → (oid : ℕ) → Bool
 is_free_oid now edits o = not (has_object (view now Nobody edits) o) && not (has_open_edit o edits)
 
--- the least number from one on, of so many, that passes a test
-abbrev pub least_from : (count from : ℕ) → (ℕ → Bool) → Option ℕ
-least_from zero from test = None
-least_from (suc more) from test = if test from then Some from else least_from more (from + 1) test
+-- the least number that passes a test: the given one, which does or does not, or of so many after it
+abbrev pub least_from : (passes : Bool) → (more from : ℕ) → (ℕ → Bool) → Option ℕ
+least_from true more from test = Some from
+least_from false zero from test = None
+least_from false (suc more) from test = least_from (test (from + 1)) more (from + 1) test
+
+-- a number that an object can have, and that is free
+abbrev pub may_be_picked : (now : ℕ) → List (Edit Deed) → (oid : ℕ) → Bool
+may_be_picked now edits o = nat_lt o oid_end && is_free_oid now edits o
 
 -- A picked number is the least free one from the counter upwards, if there is one.
 abbrev pub picked_oid : (now counter : ℕ) → List (Edit Deed) → Option ℕ
-picked_oid now counter edits = least_from (oid_end - counter) counter (is_free_oid now edits)
+picked_oid now counter edits =
+    least_from (may_be_picked now edits counter) (oid_end - counter) counter (may_be_picked now edits)

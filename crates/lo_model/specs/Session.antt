@@ -1,8 +1,8 @@
 -- A session: its transaction block, its descriptors and its cursors, and what the end of a level or of the block makes of all
 -- three. What an end makes of the edits stands in Levels.
-use Rattle.std.specs.Prelude.{ℕ, ◌==◌, not, Bool, true, ◌&&◌, List, [], map, Option, if◌then◌else◌}
+use Rattle.std.specs.Prelude.{ℕ, ◌==◌, not, Bool, ◌&&◌, List, [], map, Option}
 use Rattle.std.specs.List.{find, range_with_len}
-use Rattle.lo_model.specs.Transaction.{Transaction, no_transaction, new_transaction, is_open, top_level, with_savepoint, transaction_released, transaction_undone}
+use Rattle.lo_model.specs.Transaction.{Transaction, no_transaction, new_transaction, is_open, with_savepoint, transaction_released, transaction_undone}
 use Rattle.lo_model.specs.Descriptor.{Descriptor, Cursor, descriptor_released, cursor_released, descriptors_below, cursors_below}
 
 pub record Session : Type 0 where
