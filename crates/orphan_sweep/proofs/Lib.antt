@@ -8,4 +8,5 @@ pub mod Rests
 pub mod Merge
 pub mod Laws
 pub mod Reports
+pub mod Endings
 mod Examples

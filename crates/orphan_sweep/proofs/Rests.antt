@@ -103,7 +103,7 @@ full-pieces (suc n) size (x ∷ xs) zero d h =
 full-pieces (suc n) size (x ∷ xs) (suc k) d h =
     full-pieces n size (drop size (x ∷ xs)) k d (omega arith)
 
-limited : (l : ℕ) (numbers : List ℕ) → groups (suc l) numbers ≡ pieces (length numbers) (suc l) numbers
+pub limited : (l : ℕ) (numbers : List ℕ) → groups (suc l) numbers ≡ pieces (length numbers) (suc l) numbers
 limited l numbers =
     ap (λ b. pieces (length numbers) (cond b (length numbers) (suc l)) numbers) (suc-not_zero l)
 

@@ -5,3 +5,4 @@ pub mod State
 pub mod Place
 pub mod Inside
 pub mod Law
+pub mod Ending

@@ -3,6 +3,8 @@ ghost use Rattle.orphan_sweep.specs.declared.act.Scan.{Scan};
 ghost use Rattle.orphan_sweep.specs.declared.act.Told.{Told};
 ghost use Rattle.orphan_sweep.specs.Rest.{less, groups};
 ghost use Rattle.orphan_sweep.specs.Law.{KeepsAnswers, AsksByPlan, RemovesTheRest, StopsAtARefusal, OnlyScans, IsIdleAfterReport, IsTheRest, AreGroups};
+ghost use Rattle.orphan_sweep.specs.History.{History};
+ghost use Rattle.orphan_sweep.specs.Ending.{LeavesFewer};
 
 /// What a sweep asks for and removes, whatever is answered: a law of `next`, `told` and `removed`, by whose words the
 /// clauses speak. No code runs.
@@ -23,4 +25,11 @@ pub fn sweeps_by_answers()
         IsTheRest list found (less list found) }
     ensures cut { (limit : ℕ) (numbers : List ℕ) →
         AreGroups limit numbers (groups limit numbers) }
+{}
+
+/// A sweep ends: each answer leaves fewer acts, so after at most as many answers as it has acts left, the next act is
+/// idle. No code runs.
+pub fn sweeps_end()
+    ensures fewer { (h : History) (answer : Told) →
+        LeavesFewer h answer }
 {}

@@ -7,7 +7,7 @@ mod law;
 mod sweep;
 
 pub use act::{Scan, Scans, SweepAct, Told};
-pub use law::sweeps_by_answers;
+pub use law::{sweeps_by_answers, sweeps_end};
 pub use sweep::Sweep;
 
 #[cfg(test)]

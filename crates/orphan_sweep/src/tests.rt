@@ -2,7 +2,7 @@ ghost use Rattle.std.specs.Prelude.{◌≡◌, IsTrue, IfOk, IfSome};
 ghost use Rattle.std.specs.List.Sorted.{IsStrictlyIncreasing};
 ghost use Rattle.orphan_sweep.specs.Plan.{is_answer_to};
 
-use crate::{Scan, Scans, Sweep, SweepAct, Told, sweeps_by_answers};
+use crate::{Scan, Scans, Sweep, SweepAct, Told, sweeps_by_answers, sweeps_end};
 use lo_base::{Name, NoMemory, Oid, Oids};
 use std::alloc::{AllocError, Global};
 use std::test::Fail;
@@ -194,6 +194,7 @@ fn runs_to_the_report(rt: HostRuntime) -> Result<(), Fail> {
 }
 
 #[test]
-fn law_is_called() {
+fn laws_are_called() {
     sweeps_by_answers();
+    sweeps_end();
 }
