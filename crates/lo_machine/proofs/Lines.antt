@@ -11,15 +11,12 @@ use Rattle.orphan_sweep.specs.declared.act.SweepAct.{SweepAct}
 use Rattle.orphan_sweep.specs.declared.act.SweepAct.TheVariants as acts
 use Rattle.orphan_sweep.specs.History.{History, and_told, next_act, acts_left}
 use Rattle.orphan_sweep.specs.Plan.{is_answer_to}
-use Rattle.orphan_sweep.specs.declared.act.Told.{Told}
+use Rattle.orphan_sweep.proofs.Endings.{leaves_fewer}
 use Rattle.lo_machine.specs.Program.{program_of}
 use Rattle.lo_machine.specs.Run.{Moment, next_line, one_more, stays_at_line, is_finish, lines_after, moment_after, end_from, IsPlayable, acts_before, line_schedule}
 use Rattle.lo_machine.specs.State.{State, Outcome, Player, session_of, with_player}
 use Rattle.lo_machine.specs.Step.{refusal_of, granted_or_refused, outcome, state_after}
 use Rattle.lo_machine.specs.SweepRows.{act_of, act_in, told_of, answer_to, is_before_report, is_idle, act_refusals}
-
-fewer : (h : History) (answer : Told) → is_answer_to (next_act h) answer ≡ true → length (acts_left (and_told h answer)) + 1 ≤ length (acts_left h)
-fewer h answer fits = ?
 
 -- The acts of a clean-up.
 
@@ -95,7 +92,7 @@ finish_leaves st s h is before =
     fitting st s (next_act h) refused busy (unrefused st s (next_act h) (session_of st s).transaction.failed act refl busy) in
     subst (λ (now : Option History). acts_before now + 1 ≤ acts_before (st.players s).sweep) (sym told)
     (subst (λ (before : Option History). length (acts_left (and_told h (answer_to st s (next_act h) refused))) + 1 ≤ acts_before before) (sym is)
-    (fewer h (answer_to st s (next_act h) refused) fits))
+    (leaves_fewer h (answer_to st s (next_act h) refused) fits))
 
 finish_fewer : (st : State) (s : ℕ) (sweep : Option History) → (st.players s).sweep ≡ sweep → is_before_report (act_in sweep) ≡ true → acts_before ((state_after st s Finish).players s).sweep + 1 ≤ acts_before (st.players s).sweep
 finish_fewer st s None is before = cc
