@@ -19,9 +19,9 @@ use Rattle.xact_core.specs.declared.xacts.Xacts.TheInside.{Inside}
 use Rattle.xact_core.specs.Ends.{Turns, same, Opens, Ends}
 use Rattle.xact_core.specs.Fate.{is_some_from, fate_after, turned_at}
 use Rattle.xact_core.specs.Inside.{names_of, seen_of, owner_at, IsSession, IsWell, views_count, views_in, IsXacts}
-use Rattle.xact_core.specs.Kept.{views_of, sessions_views, kept_views, current, current_committed, TakesOut, HoldsOthers}
+use Rattle.xact_core.specs.Kept.{views_of, sessions_views, kept_views, current, current_committed, TakesOut, HoldsOthers, LooksWhole, HoldsWholeViews}
 use Rattle.xact_core.specs.Opened.{Opened, opened_at, with_level, with_first, with_none, IsOpened, IsEnded}
-use Rattle.xact_core.specs.Stamp.{made_at, owner_in, owner_of, IsIssued, HasOwners, sees_made, sees_stamp}
+use Rattle.xact_core.specs.Stamp.{made_at, owner_in, owner_of, IsIssued, HasOwners, sees_made, sees_stamp, SeesSame}
 use Rattle.xact_core.specs.Transactions.{Transactions, levels_of, HasLevels}
 use Rattle.xact_core.proofs.EndLaws.{fate, session_of, CommitsBy, none_committed, none_aborted}
 use Rattle.xact_core.proofs.Opening.{well_opened, opened_turns}
@@ -190,10 +190,10 @@ ended_fewer x y v e s left seen less well held ended = rw (length-kept_views y, 
 abbrev pub TurnsOwners : End → (undos : ℕ) → (Owner → Option Owner) → Type 0
 TurnsOwners e undos turn = (st : Stamp) (since : ℕ) (owner : Option Owner) → st.undos ≤ undos → owner_in st (Some (fate_after e (fate since owner))) ≡ option_and_then turn (owner_in st (Some (fate since owner)))
 
-pub ended : (x y : Inside) (v : Transactions) (e : End) (s : ℕ) (left : Opened → Opened) (turn : Owner → Option Owner) (names : List (Option (List ℕ))) → seen_of x ≡ v → session_of e ≡ s → IsXacts x → y.clock ≡ x.clock → x.undos ≤ y.undos → y.held.items ≡ x.held.items → names ≡ (left (opened_at x.sessions.items (s - 1))).names → length (left (opened_at x.sessions.items (s - 1))).names ≤ length (opened_at x.sessions.items (s - 1)).names → TurnsOwners e x.undos turn → IsEnded e s left x.sessions.items y.sessions.items x.fates.items y.fates.items → Ends turn s names v (seen_of y)
-ended x y v e s left turn names seen own well clock undos held is less turns end =
+pub ended : (x y : Inside) (v : Transactions) (e : End) (s : ℕ) (left : Opened → Opened) (turn : Owner → Option Owner) (count : ℕ) → seen_of x ≡ v → session_of e ≡ s → IsXacts x → y.clock ≡ x.clock → x.undos ≤ y.undos → y.held.items ≡ x.held.items → take count (opened_at x.sessions.items (s - 1)).names ≡ (left (opened_at x.sessions.items (s - 1))).names → length (left (opened_at x.sessions.items (s - 1))).names ≤ length (opened_at x.sessions.items (s - 1)).names → TurnsOwners e x.undos turn → IsEnded e s left x.sessions.items y.sessions.items x.fates.items y.fates.items → Ends turn s count v (seen_of y)
+ended x y v e s left turn count seen own well clock undos held is less turns end =
     record {
-      levels = ended_levels x y v e s left names seen well is end;
+      levels = ended_levels x y v e s left (take count (levels_of v s)) seen well (ap (take count) (names_there x v s seen end.low) ∙ is) end;
       owners = ended_turns x y v e s left turn seen own well clock undos turns end;
       clock = clock ∙ ap (λ (u : Transactions). u.clock) seen;
       held = held ∙ ap (λ (u : Transactions). u.held) seen;
@@ -318,7 +318,7 @@ pub owners_there : (x : Inside) (v : Transactions) → seen_of x ≡ v → IsXac
 owners_there x v seen well = subst HasOwners seen (owners_seen x well)
 
 -- a session without levels sees nothing of its own
-pub none_seen : (v : Transactions) (s : ℕ) → HasOwners v → levels_of v s ≡ [] → (st : Stamp) → sees_stamp v (current v s) st ≡ sees_stamp v (current_committed v) st
+pub none_seen : (v : Transactions) (s : ℕ) → HasOwners v → levels_of v s ≡ [] → SeesSame v (current v s) (current_committed v)
 none_seen v s owners none st = by_owner (owner_of v st) refl
   where
     by_owner : (o : Option Owner) → owner_of v st ≡ o → sees_made (current v s) (made_at st) o ≡ sees_made (current_committed v) (made_at st) o
@@ -334,7 +334,7 @@ none_seen v s owners none st = by_owner (owner_of v st) refl
             absurd (omega (arith, level.0, level.1, no_levels))
         by_test false other = grind (arith, nat_tests)
 
-pub none_there : (x : Inside) (v : Transactions) (s : ℕ) → seen_of x ≡ v → IsXacts x → levels_of v s ≡ [] → (st : Stamp) → sees_stamp v (current (seen_of x) s) st ≡ sees_stamp v (current_committed v) st
+pub none_there : (x : Inside) (v : Transactions) (s : ℕ) → seen_of x ≡ v → IsXacts x → levels_of v s ≡ [] → SeesSame v (current (seen_of x) s) (current_committed v)
 none_there x v s seen well none st = ap (λ (u : Transactions). sees_stamp v (current u s) st) seen ∙ none_seen v s (owners_there x v seen well) none st
 
 -- the whole view of a session with a transaction is kept
@@ -357,6 +357,15 @@ pub let_go_others : (x : Inside) (v : Transactions) (view : Snapshot) (held : Li
 let_go_others x v view held seen takes =
     subst (λ (u : Transactions). HoldsOthers u (with_held x held)) seen
     (record { rest = refl; kept = λ w here. held_kept (seen_of x) w (taken_from view x.held.items held takes w here) })
+
+pub let_go_whole : (x : Inside) (v : Transactions) (view : Snapshot) (held : List Snapshot) → seen_of x ≡ v → TakesOut view x.held.items held → HoldsWholeViews v → HoldsWholeViews (with_held x held)
+let_go_whole x v view held seen takes before = record { whole = λ w here. before.whole w (subst (λ (u : Transactions). Contains u.held w) seen (taken_from view x.held.items held takes w here)) }
+
+pub hold_whole : (x : Inside) (v : Transactions) (view : Snapshot) (held : List Snapshot) → seen_of x ≡ v → held ≡ x.held.items ++ view ∷ [] → LooksWhole view.viewer → HoldsWholeViews v → HoldsWholeViews (with_held x held)
+hold_whole x v view held seen is whole before = record { whole = λ w here. ⊎_elim (λ old. before.whole w (subst (λ (u : Transactions). Contains u.held w) seen old)) (λ own. subst (λ (u : Snapshot). LooksWhole u.viewer) own whole) (Contains-push_cases x.held.items view w (subst (λ (views : List Snapshot). Contains views w) is here)) }
+
+pub same_whole : (x : Inside) (v : Transactions) (held : List Snapshot) → seen_of x ≡ v → held ≡ x.held.items → HoldsWholeViews v → HoldsWholeViews (with_held x held)
+same_whole x v held seen is before = record { whole = λ w here. before.whole w (subst (λ (u : Transactions). Contains u.held w) seen (subst (λ (views : List Snapshot). Contains views w) is here)) }
 
 pub let_go_views : (x : Inside) (v : Transactions) (view : Snapshot) (held : List Snapshot) → seen_of x ≡ v → TakesOut view x.held.items held → length (kept_views (with_held x held)) + 1 ≡ length (kept_views v)
 let_go_views x v view held seen takes =

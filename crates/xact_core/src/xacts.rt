@@ -40,9 +40,9 @@ impl Model for Xacts {
 impl Xacts {
     ghost use Rattle.lo_model.specs.declared.owner.Owner.TheVariants.{Running};
     ghost use Rattle.xact_core.specs.Transactions.{beginning, levels_of, HasNo, IsNewest};
-    ghost use Rattle.xact_core.specs.Stamp.{made_at, owner_of, IsIssued, HasOwners, sees_stamp};
+    ghost use Rattle.xact_core.specs.Stamp.{made_at, owner_of, IsIssued, HasOwners, RunsWithin, sees_stamp, SeesSame};
     ghost use Rattle.xact_core.specs.Ends.{Turns, same, release, undo, commit_at, Opens, Ends};
-    ghost use Rattle.xact_core.specs.Kept.{current, current_committed, kept_views, HoldsOthers};
+    ghost use Rattle.xact_core.specs.Kept.{current, current_committed, kept_views, HoldsOthers, LooksWhole, HoldsWholeViews};
     ghost use Rattle.xact_core.specs.Laws.{looks_as, before_release, before_undo, SeesAs, SparesOthers, ShowsFrom};
     ghost use Rattle.xact_core.specs.declared.snapshot.Snapshot.{Snapshot};
     ghost use Rattle.xact_core.specs.declared.stamp.Stamp.{Stamp};
@@ -115,7 +115,7 @@ impl Xacts {
         ensures sixteen { length self.now.levels ≡ 16 }
         // Each edit is a session's, at one of its levels, or a commit's. The session's own stand at one of these.
         ensures owners { HasOwners self.now }
-        ensures stamps { (st : Stamp) (l : ℕ) → owner_of self.now st ≡ Some (Running s l) → (1 ≤ l) × (l ≤ result) }
+        ensures stamps { RunsWithin self.now s result }
     {
         self.sessions[s.place()].levels() as u64
     }
@@ -131,7 +131,7 @@ impl Xacts {
     pub fn release_level(&mut self, s: SessionNo, level: u64)
         requires low { 2 ≤ level }
         requires high { level ≤ length (levels_of self.old s) }
-        ensures ends { Ends (release s level) s (take (level - 1) (levels_of self.old s)) self.old self.new }
+        ensures ends { Ends (release s level) s (level - 1) self.old self.new }
         ensures undos { self.new.undos ≡ self.old.undos }
 
         // Each view has what another had before: the session's whole one what it had, and those of others too.
@@ -153,7 +153,7 @@ impl Xacts {
         requires low { 1 ≤ level }
         requires high { level ≤ length (levels_of self.old s) }
         requires undos { self.old.undos < 2 ^ 63 }
-        ensures ends { Ends (undo s level) s (take level (levels_of self.old s)) self.old self.new }
+        ensures ends { Ends (undo s level) s level self.old self.new }
         ensures undos { self.new.undos ≡ self.old.undos + 1 }
 
         // Each view has what another had before: the session's whole one what was below the level.
@@ -168,7 +168,7 @@ impl Xacts {
     /// Commits the session's transaction at the present clock.
     pub fn commit(&mut self, s: SessionNo)
         requires { 0 < length (levels_of self.old s) }
-        ensures ends { Ends (commit_at s self.old.clock) s [] self.old self.new }
+        ensures ends { Ends (commit_at s self.old.clock) s 0 self.old self.new }
         ensures undos { self.new.undos ≡ self.old.undos }
 
         // Later views have all of the session's edits, and earlier ones none. No other edit comes or goes.
@@ -181,7 +181,7 @@ impl Xacts {
     /// Undoes the session's transaction, and ends it.
     pub fn abort(&mut self, s: SessionNo)
         requires { 0 < length (levels_of self.old s) }
-        ensures ends { Ends (undo s 1) s [] self.old self.new }
+        ensures ends { Ends (undo s 1) s 0 self.old self.new }
         ensures undos { self.new.undos ≡ self.old.undos }
 
         // Each view has what another had before: the session's whole one what was below level 1.
@@ -214,7 +214,7 @@ impl Xacts {
         ensures view { result ≡ current self.now s }
         ensures kept { 0 < length (levels_of self.now s) → Contains (kept_views self.now) result }
         // Without a transaction it has what the view of what is committed has.
-        ensures none { levels_of self.now s ≡ [] → (st : Stamp) → sees_stamp self.now result st ≡ sees_stamp self.now (current_committed self.now) st }
+        ensures none { levels_of self.now s ≡ [] → SeesSame self.now result (current_committed self.now) }
     {
         // Numbers of sessions begin at 1.
         let _ = s.number();
@@ -291,6 +291,7 @@ impl Xacts {
         ensures err { OnErr result (self.new ≡ self.old) }
         ensures owners { Turns same self.old self.new }
         ensures others { HoldsOthers self.old self.new }
+        ensures whole { LooksWhole snap.viewer → HoldsWholeViews self.old → HoldsWholeViews self.new }
     {
         let hold = Hold::new(snap);
         self.held.push(hold.snapshot())?;
@@ -306,6 +307,7 @@ impl Xacts {
         ensures views { length (kept_views self.new) + 1 ≡ length (kept_views self.old) }
         ensures owners { Turns same self.old self.new }
         ensures others { HoldsOthers self.old self.new }
+        ensures whole { HoldsWholeViews self.old → HoldsWholeViews self.new }
     {
         take_out(&mut self.held, hold.snapshot());
     }

@@ -21,7 +21,7 @@ invariant_of-self c =
 
 pub returns-clause-ends : goal.returns-clause-ends
 returns-clause-ends c =
-    ended c.self.inside (record { clock = c.self.inside.clock; undos = c.self.inside.undos; sessions = c.end_transaction.new.sessions; fates = c.end_transaction.new.fates; held = c.self.inside.held }) _ (Aborted c.args.s) c.args.s with_none (undo c.args.s 1) _
+    ended c.self.inside (record { clock = c.self.inside.clock; undos = c.self.inside.undos; sessions = c.end_transaction.new.sessions; fates = c.end_transaction.new.fates; held = c.self.inside.held }) _ (Aborted c.args.s) c.args.s with_none (undo c.args.s 1) 0
     c.self.view_is refl c.self.invariant refl (omega arith) refl refl (omega arith) (λ st since owner _. abort_turns c.args.s st since owner) c.end_transaction.ensures
 
 pub returns-clause-views : goal.returns-clause-views

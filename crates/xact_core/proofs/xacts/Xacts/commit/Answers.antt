@@ -22,7 +22,7 @@ invariant_of-self c =
 pub returns-clause-ends : goal.returns-clause-ends
 returns-clause-ends c =
     rw (← c.self.view_is)
-    (ended c.self.inside (record { clock = c.self.inside.clock; undos = c.self.inside.undos; sessions = c.end_transaction.new.sessions; fates = c.end_transaction.new.fates; held = c.self.inside.held }) _ (Committed c.args.s c.self.inside.clock) c.args.s with_none (commit_at c.args.s c.self.inside.clock) _
+    (ended c.self.inside (record { clock = c.self.inside.clock; undos = c.self.inside.undos; sessions = c.end_transaction.new.sessions; fates = c.end_transaction.new.fates; held = c.self.inside.held }) _ (Committed c.args.s c.self.inside.clock) c.args.s with_none (commit_at c.args.s c.self.inside.clock) 0
     refl refl c.self.invariant refl (omega arith) refl refl (omega arith) (λ st since owner _. commit_turns c.args.s c.self.inside.clock c.self.inside.undos st since owner) c.end_transaction.ensures)
 
 pub returns-clause-views : goal.returns-clause-views

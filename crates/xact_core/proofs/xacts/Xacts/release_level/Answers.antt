@@ -3,7 +3,7 @@ use Rattle.xact_core.specs.declared.fate.End.TheVariants.{Released}
 use Rattle.xact_core.specs.Ends.{release}
 use Rattle.xact_core.specs.Opened.{with_first}
 use Rattle.xact_core.proofs.EndLaws.{release_turns}
-use Rattle.xact_core.proofs.Steps.{places_there, names_there, level_there, released_well, ended, ended_count, taken}
+use Rattle.xact_core.proofs.Steps.{places_there, level_there, released_well, ended, ended_count, taken}
 use Rattle.xact_core.proofs.ViewLaws.{release_views, release_held}
 use Rattle.xact_core.proofs.xacts.Xacts.release_level.Goals as goal
 
@@ -21,8 +21,8 @@ invariant_of-self c =
 
 pub returns-clause-ends : goal.returns-clause-ends
 returns-clause-ends c =
-    ended c.self.inside (record { clock = c.self.inside.clock; undos = c.self.inside.undos; sessions = c.end_levels.new.sessions; fates = c.end_levels.new.fates; held = c.self.inside.held }) _ (Released c.args.s c.args.level) c.args.s (with_first (c.args.level - 1)) (release c.args.s c.args.level) _
-    c.self.view_is refl c.self.invariant refl (omega arith) refl (ap (take (c.args.level - 1)) (names_there c.self.inside _ c.args.s c.self.view_is c.end_levels.ensures.low)) (taken (c.args.level - 1) _)
+    ended c.self.inside (record { clock = c.self.inside.clock; undos = c.self.inside.undos; sessions = c.end_levels.new.sessions; fates = c.end_levels.new.fates; held = c.self.inside.held }) _ (Released c.args.s c.args.level) c.args.s (with_first (c.args.level - 1)) (release c.args.s c.args.level) (c.args.level - 1)
+    c.self.view_is refl c.self.invariant refl (omega arith) refl refl (taken (c.args.level - 1) _)
     (λ st since owner _. release_turns c.args.s c.args.level c.self.inside.undos st since owner) c.end_levels.ensures
 
 pub returns-clause-views : goal.returns-clause-views

@@ -4,7 +4,7 @@ use Rattle.xact_core.specs.Ends.{undo}
 use Rattle.xact_core.specs.Opened.{with_first}
 use Rattle.xact_core.specs.Transactions.{Transactions}
 use Rattle.xact_core.proofs.EndLaws.{undo_turns}
-use Rattle.xact_core.proofs.Steps.{places_there, names_there, level_there, undone_well, ended, ended_count, taken}
+use Rattle.xact_core.proofs.Steps.{places_there, level_there, undone_well, ended, ended_count, taken}
 use Rattle.xact_core.proofs.ViewLaws.{undo_views, undo_held}
 use Rattle.xact_core.proofs.xacts.Xacts.undo_level.Goals as goal
 
@@ -22,8 +22,8 @@ invariant_of-self c =
 
 pub returns-clause-ends : goal.returns-clause-ends
 returns-clause-ends c =
-    ended c.self.inside (record { clock = c.self.inside.clock; undos = c.self.inside.undos + 1; sessions = c.end_levels.new.sessions; fates = c.end_levels.new.fates; held = c.self.inside.held }) _ (Undone c.args.s c.args.level (c.self.inside.undos + 1)) c.args.s (with_first c.args.level) (undo c.args.s c.args.level) _
-    c.self.view_is refl c.self.invariant refl (omega arith) refl (ap (take c.args.level) (names_there c.self.inside _ c.args.s c.self.view_is c.end_levels.ensures.low)) (taken c.args.level _)
+    ended c.self.inside (record { clock = c.self.inside.clock; undos = c.self.inside.undos + 1; sessions = c.end_levels.new.sessions; fates = c.end_levels.new.fates; held = c.self.inside.held }) _ (Undone c.args.s c.args.level (c.self.inside.undos + 1)) c.args.s (with_first c.args.level) (undo c.args.s c.args.level) c.args.level
+    c.self.view_is refl c.self.invariant refl (omega arith) refl refl (taken c.args.level _)
     (λ st since owner old. undo_turns c.args.s c.args.level (c.self.inside.undos + 1) st since owner (omega arith)) c.end_levels.ensures
 
 pub returns-clause-views : goal.returns-clause-views
