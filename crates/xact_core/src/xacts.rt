@@ -1,7 +1,9 @@
 ghost use Rattle.std.specs.Prelude.{◌≡◌, ℕ, true, false, ◌<◌, ◌≤◌, ◌+◌, ◌-◌, ◌^◌, ◌∷◌, ◌++◌, [], Some, None, length, map, sum_by, take, All, slice_set, OnOk, OnErr, IfOk, MatchOption, Contains, IsPermutation, slice_get};
-ghost use Rattle.xact_core.specs.Inside.{names_of, views_in};
+ghost use Rattle.xact_core.specs.Ends.{release};
+ghost use Rattle.xact_core.specs.Fate.{owner_after};
+ghost use Rattle.xact_core.specs.Inside.{names_of, views_in, AreSessions};
 ghost use Rattle.xact_core.specs.Kept.{view_at, viewer_of, sessions_views, TakesOut};
-ghost use Rattle.xact_core.specs.Opened.{opened_at, with_first, with_none, IsOpened, IsEnded};
+ghost use Rattle.xact_core.specs.Opened.{opened_at, from_level, all_places, with_released, with_none, IsOpened, IsEnded, IsUndone};
 
 use crate::fate::{End, Fate, turn};
 use crate::session::Session;
@@ -138,14 +140,7 @@ impl Xacts {
         ensures views { SeesAs (before_release s level) self.old self.new }
         ensures others { SparesOthers s self.old self.new }
     {
-        let end = End::Released(s, level);
-        end_levels(
-            &mut self.sessions,
-            &mut self.fates,
-            s,
-            &end,
-            level as usize - 1,
-        );
+        release_from(&mut self.sessions, &mut self.fates, s, level);
     }
 
     /// Undoes a level and all above it, and leaves the level empty. The level counts from 1.
@@ -161,8 +156,7 @@ impl Xacts {
         ensures others { SparesOthers s self.old self.new }
     {
         self.undos += 1;
-        let end = End::Undone(s, level, self.undos);
-        end_levels(&mut self.sessions, &mut self.fates, s, &end, level as usize);
+        undo_from(&mut self.sessions, &mut self.fates, s, level, self.undos);
     }
 
     /// Commits the session's transaction at the present clock.
@@ -188,7 +182,7 @@ impl Xacts {
         ensures views { SeesAs (before_undo s 1) self.old self.new }
         ensures others { SparesOthers s self.old self.new }
     {
-        let end = End::Aborted(s);
+        let end = End::Undone(s, 1);
         end_transaction(&mut self.sessions, &mut self.fates, s, &end);
     }
 
@@ -347,28 +341,44 @@ fn open_level(
     Ok(())
 }
 
-/// Ends a session's levels but the first ones, of which `left` stay.
-fn end_levels(
+/// Merges a session's level and all above it into the level below it.
+fn release_from(sessions: &mut Vec<Session>, fates: &mut Vec<Fate>, s: SessionNo, level: u64)
+    requires well { AreSessions sessions.old.items fates.old.items }
+    requires low { 2 ≤ level }
+    requires high { level ≤ length (opened_at sessions.old.items (s - 1)).names }
+    ensures { IsEnded (release s level) s (from_level level) (with_released level) sessions.old.items sessions.new.items fates.old.items fates.new.items }
+{
+    let session = &mut sessions[s.place()];
+    turn(fates, session.places_from(level), &End::Released(s, level));
+    session.release(level);
+}
+
+/// Undoes a session's level and all above it, and leaves the level empty. `undos` counts the undoings so far.
+fn undo_from(
     sessions: &mut Vec<Session>,
     fates: &mut Vec<Fate>,
     s: SessionNo,
-    end: &End,
-    left: usize,
+    level: u64,
+    undos: u64,
 )
-    requires sixteen { length sessions.old.items ≡ 16 }
-    requires places { All (λ i. i < length fates.old.items) (opened_at sessions.old.items (s - 1)).places }
-    ensures { IsEnded end.now s (with_first left) sessions.old.items sessions.new.items fates.old.items fates.new.items }
+    requires well { AreSessions sessions.old.items fates.old.items }
+    requires low { 1 ≤ level }
+    requires high { level ≤ length (opened_at sessions.old.items (s - 1)).names }
+    ensures { IsUndone s level undos sessions.old.items sessions.new.items fates.old.items fates.new.items }
 {
     let session = &mut sessions[s.place()];
-    turn(fates, session.places(), end);
-    session.truncate(left);
+    turn(fates, session.places_from(level), &End::Undone(s, level));
+    fates[session.first(level)] = Fate {
+        owner: Some(Owner::Running(s, level)),
+        since: undos,
+    };
+    session.undo(level);
 }
 
 /// Ends a session's transaction.
 fn end_transaction(sessions: &mut Vec<Session>, fates: &mut Vec<Fate>, s: SessionNo, end: &End)
-    requires sixteen { length sessions.old.items ≡ 16 }
-    requires places { All (λ i. i < length fates.old.items) (opened_at sessions.old.items (s - 1)).places }
-    ensures { IsEnded end.now s with_none sessions.old.items sessions.new.items fates.old.items fates.new.items }
+    requires well { AreSessions sessions.old.items fates.old.items }
+    ensures { IsEnded (owner_after end.now) s all_places with_none sessions.old.items sessions.new.items fates.old.items fates.new.items }
 {
     let session = &mut sessions[s.place()];
     turn(fates, session.places(), end);

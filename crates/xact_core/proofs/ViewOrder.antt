@@ -11,7 +11,7 @@ use Rattle.xact_core.specs.declared.xacts.Xacts.TheInside.{Inside}
 use Rattle.xact_core.specs.Inside.{names_of, seen_of, views_count, views_in}
 use Rattle.xact_core.specs.Kept.{view_at, viewer_of, below_views, session_views, sessions_views, kept_views, views_of}
 use Rattle.xact_core.specs.Opened.{Opened, opened_at}
-use Rattle.xact_core.proofs.Places.{append_in, append_here}
+use Rattle.xact_core.proofs.ListPlaces.{append_in, append_here}
 
 -- How many views are kept, and which one stands at a place.
 
