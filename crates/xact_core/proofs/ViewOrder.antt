@@ -1,3 +1,4 @@
+-- How many views are kept, and which one stands at a place.
 use Rattle.std.proofs.Common.{ℕ, zero, suc, ◌+◌, ◌-◌, ◌<◌, ◌≤◌, ◌≡◌, ⊎_elim, List, [], ◌∷◌, ◌++◌, length, drop, map, Option, Some, None, refl, ap, sym, subst, ◌∙◌, arith, length-append, drop-cons}
 use Rattle.std.specs.Prelude.{slice_get, slice_index_or, sum_by, Contains}
 use Rattle.std.proofs.lemmas.Bool.{cases_lt}
@@ -12,8 +13,6 @@ use Rattle.xact_core.specs.Inside.{names_of, seen_of, views_count, views_in}
 use Rattle.xact_core.specs.Kept.{view_at, viewer_of, below_views, session_views, sessions_views, kept_views, views_of}
 use Rattle.xact_core.specs.Opened.{Opened, opened_at}
 use Rattle.xact_core.proofs.ListPlaces.{append_in, append_here}
-
--- How many views are kept, and which one stands at a place.
 
 length-below_views : (clock s n : ℕ) → length (below_views clock s n) ≡ n
 length-below_views clock s zero = refl

@@ -30,3 +30,7 @@ turned_one f i (Some fate) fates = slice_set fates i (f fate)
 abbrev pub turned_at : (Fate → Fate) → List ℕ → List Fate → List Fate
 turned_at f [] fates = fates
 turned_at f (i ∷ is) fates = turned_at f is (turned_one f i (slice_get fates i) fates)
+
+-- the same, by what is made of their owners
+abbrev pub turned_by : (Owner → Option Owner) → List ℕ → List Fate → List Fate
+turned_by turn places fates = turned_at (fate_after turn) places fates

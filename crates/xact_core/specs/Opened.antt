@@ -5,7 +5,7 @@ use Rattle.lo_model.specs.declared.owner.Owner.{Owner}
 use Rattle.lo_model.specs.declared.owner.Owner.TheVariants.{Running}
 use Rattle.xact_core.specs.declared.fate.Fate.{Fate}
 use Rattle.xact_core.specs.declared.session.Level.{Level}
-use Rattle.xact_core.specs.Ends.{undo}
+use Rattle.xact_core.specs.Ends.{release, undo}
 use Rattle.xact_core.specs.Fate.{fate_after, turned_at}
 
 -- A session's open levels: their names, at which index among the places those of each level begin, and the places of the
@@ -82,6 +82,14 @@ pub record IsEnded (turn : Owner → Option Owner) (s : ℕ) (places : Opened �
   pub high : s ≤ 16
   pub levels : sessions' ≡ slice_set sessions (s - 1) (left (opened_at sessions (s - 1)))
   pub turned : fates' ≡ turned_at (fate_after turn) (places (opened_at sessions (s - 1))) fates
+
+-- The places of a level and of all above it belong to the level below it.
+abbrev pub IsReleased : (s k : ℕ) (sessions sessions' : List Opened) (fates fates' : List Fate) → Type 0
+IsReleased s k sessions sessions' fates fates' = IsEnded (release s k) s (from_level k) (with_released k) sessions sessions' fates fates'
+
+-- No level of a session is left, and all that was open is turned.
+abbrev pub IsOver : (Owner → Option Owner) → (s : ℕ) (sessions sessions' : List Opened) (fates fates' : List Fate) → Type 0
+IsOver turn s sessions sessions' fates fates' = IsEnded turn s all_places with_none sessions sessions' fates fates'
 
 -- The fates of a level and of all above it are undone, and the first one is again the level's, with a count of undoings.
 pub record IsUndone (s k undos : ℕ) (sessions sessions' : List Opened) (fates fates' : List Fate) : Type 0 where

@@ -1,6 +1,6 @@
 // Whose the edits of a level are, and how the end of levels changes it. Only `Xacts` uses it.
 ghost use Rattle.std.specs.Prelude.{◌≡◌, ◌<◌, All, length};
-ghost use Rattle.xact_core.specs.Fate.{owner_after, fate_after, turned_at};
+ghost use Rattle.xact_core.specs.Fate.{owner_after, fate_after, turned_by};
 
 use lo_base::{Clock, SessionNo};
 use lo_model::Owner;
@@ -61,7 +61,7 @@ impl Fate {
 /// Turns the fates at these places, one after the other.
 pub fn turn(fates: &mut Vec<Fate>, places: &[usize], end: &End)
     requires { All (λ i. i < length fates.old.items) places.now }
-    ensures { fates.new.items ≡ turned_at (fate_after (owner_after end.now)) places.now fates.old.items }
+    ensures { fates.new.items ≡ turned_by (owner_after end.now) places.now fates.old.items }
 {
     for place in places {
         let turned = fates[*place].after(end);

@@ -1,8 +1,8 @@
 // The open levels of one session, and which fates belong to each of them. Only `Xacts` uses it: nothing here is public.
-ghost use Rattle.std.specs.Prelude.{◌≡◌, ◌+◌, ◌-◌, ◌^◌, ◌<◌, ◌≤◌, ◌↔◌, IsTrue, length, slice_index, OnOk, OnErr, MatchOption};
+ghost use Rattle.std.specs.Prelude.{◌≡◌, ◌+◌, ◌-◌, ◌^◌, ◌<◌, ◌≤◌, ◌↔◌, IsTrue, length, slice_index, OnOk, OnErr};
 ghost use Rattle.xact_core.specs.Kept.{views_of};
 ghost use Rattle.xact_core.specs.Opened.{nothing, start, from_level, first_of, with_level, with_released, with_undone};
-ghost use Rattle.xact_core.specs.Transactions.{IsNewest, HasNo};
+ghost use Rattle.xact_core.specs.Transactions.{FindsNewest};
 
 use lo_base::{Name, NoMemory};
 use std::alloc::Global;
@@ -32,6 +32,7 @@ impl Model for Session {
 }
 
 impl Session {
+    /// No transaction.
     pub fn new(alloc: Global) -> Session
         ensures { result ≡ nothing }
     {
@@ -41,6 +42,7 @@ impl Session {
         }
     }
 
+    /// How many levels there are.
     pub fn levels(&self) -> usize
         ensures count { result ≡ length self.now.names }
         ensures small { result < 2 ^ 63 }
@@ -58,6 +60,7 @@ impl Session {
         }
     }
 
+    /// The places of all levels.
     pub fn places(&self) -> &[usize]
         ensures { result.now ≡ self.now.places }
     {
@@ -134,7 +137,7 @@ impl Session {
 
     /// The newest level with the name, counted from 1.
     pub fn newest(&self, name: &Name) -> Option<u64>
-        ensures { MatchOption result (HasNo self.now.names name.now) (IsNewest self.now.names name.now) }
+        ensures { FindsNewest self.now.names name.now result }
     {
         for index in (0..self.levels.len()).rev() {
             if is_named(&self.levels[index].name, name) {

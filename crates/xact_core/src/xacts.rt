@@ -1,9 +1,10 @@
-ghost use Rattle.std.specs.Prelude.{◌≡◌, ℕ, true, false, ◌<◌, ◌≤◌, ◌+◌, ◌-◌, ◌^◌, ◌∷◌, ◌++◌, [], Some, None, length, map, sum_by, take, All, slice_set, OnOk, OnErr, IfOk, MatchOption, Contains, IsPermutation, slice_get};
-ghost use Rattle.xact_core.specs.Ends.{release};
+// The transactions of all sessions: the calls that the crates above use. What a session's levels and fates are made of
+// stands in `session` and `fate`, and no contract of these calls names it.
+ghost use Rattle.std.specs.Prelude.{◌≡◌, ℕ, true, false, ◌<◌, ◌≤◌, ◌+◌, ◌-◌, ◌^◌, ◌∷◌, ◌++◌, [], Some, None, length, map, sum_by, take, All, slice_set, OnOk, OnErr, IfOk, Contains, IsPermutation, slice_get};
 ghost use Rattle.xact_core.specs.Fate.{owner_after};
 ghost use Rattle.xact_core.specs.Inside.{names_of, views_in, AreSessions};
 ghost use Rattle.xact_core.specs.Kept.{view_at, viewer_of, sessions_views, TakesOut};
-ghost use Rattle.xact_core.specs.Opened.{opened_at, from_level, all_places, with_released, with_none, IsOpened, IsEnded, IsUndone};
+ghost use Rattle.xact_core.specs.Opened.{opened_at, IsOpened, IsReleased, IsOver, IsUndone};
 
 use crate::fate::{End, Fate, turn};
 use crate::session::Session;
@@ -17,7 +18,8 @@ use std::marker::Model;
 /// The transactions of all sessions.
 ///
 /// `fates` has one entry for each level that was ever begun, which is never given back: stamps name it by its place. The
-/// ends of levels and transactions turn only the entries that the session has open.
+/// end of a level turns the entries of that level and of those above it, and an undoing leaves the session one of them. The
+/// end of a transaction turns those that the session has open.
 #[derive(Drop)]
 pub struct Xacts {
     clock: Clock,
@@ -41,7 +43,7 @@ impl Model for Xacts {
 
 impl Xacts {
     ghost use Rattle.lo_model.specs.declared.owner.Owner.TheVariants.{Running};
-    ghost use Rattle.xact_core.specs.Transactions.{beginning, levels_of, HasNo, IsNewest};
+    ghost use Rattle.xact_core.specs.Transactions.{beginning, levels_of, FindsNewest};
     ghost use Rattle.xact_core.specs.Stamp.{made_at, owner_of, IsIssued, HasOwners, RunsWithin, sees_stamp, SeesSame};
     ghost use Rattle.xact_core.specs.Ends.{Turns, same, release, undo, commit_at, Opens, Ends};
     ghost use Rattle.xact_core.specs.Kept.{current, current_committed, kept_views, HoldsOthers, LooksWhole, HoldsWholeViews};
@@ -76,6 +78,7 @@ impl Xacts {
         self.clock += 1;
     }
 
+    /// The present clock: the number of `tick`s so far.
     pub fn now(&self) -> Clock
         ensures { result ≡ self.now.clock }
     {
@@ -124,7 +127,7 @@ impl Xacts {
 
     /// The session's newest level with the name, counted from 1.
     pub fn newest(&self, s: SessionNo, name: &Name) -> Option<u64>
-        ensures { MatchOption result (HasNo (levels_of self.now s) name.now) (IsNewest (levels_of self.now s) name.now) }
+        ensures { FindsNewest (levels_of self.now s) name.now result }
     {
         self.sessions[s.place()].newest(name)
     }
@@ -346,7 +349,7 @@ fn release_from(sessions: &mut Vec<Session>, fates: &mut Vec<Fate>, s: SessionNo
     requires well { AreSessions sessions.old.items fates.old.items }
     requires low { 2 ≤ level }
     requires high { level ≤ length (opened_at sessions.old.items (s - 1)).names }
-    ensures { IsEnded (release s level) s (from_level level) (with_released level) sessions.old.items sessions.new.items fates.old.items fates.new.items }
+    ensures { IsReleased s level sessions.old.items sessions.new.items fates.old.items fates.new.items }
 {
     let session = &mut sessions[s.place()];
     turn(fates, session.places_from(level), &End::Released(s, level));
@@ -378,7 +381,7 @@ fn undo_from(
 /// Ends a session's transaction.
 fn end_transaction(sessions: &mut Vec<Session>, fates: &mut Vec<Fate>, s: SessionNo, end: &End)
     requires well { AreSessions sessions.old.items fates.old.items }
-    ensures { IsEnded (owner_after end.now) s all_places with_none sessions.old.items sessions.new.items fates.old.items fates.new.items }
+    ensures { IsOver (owner_after end.now) s sessions.old.items sessions.new.items fates.old.items fates.new.items }
 {
     let session = &mut sessions[s.place()];
     turn(fates, session.places(), end);
