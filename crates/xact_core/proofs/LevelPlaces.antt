@@ -1,6 +1,6 @@
 -- The places at which a session's levels run, and what ends and beginnings of levels do to them.
 use Rattle.std.proofs.Common.{ℕ, zero, suc, ◌+◌, ◌-◌, ◌<◌, ◌≤◌, ◌≡◌, ◌≢◌, ◌⊎◌, inl, inr, Bool, true, false, List, [], ◌∷◌, ◌++◌, length, take, drop, Option, Some, None, refl, ap, sym, subst, ◌∙◌, arith, length-append, length-set}
-use Rattle.std.specs.Prelude.{option_map, option_and_then, slice_get, slice_set, slice_index, slice_index_or, nat_le, ◌==◌, ◌&&◌, ◌||◌, not, if◌then◌else◌, All}
+use Rattle.std.specs.Prelude.{option_map, option_and_then, slice_get, slice_set, slice_index, slice_index_or, ◌==◌, ◌&&◌, ◌||◌, not, if◌then◌else◌, All}
 use Rattle.std.proofs.lemmas.Bool.{false≢true, cases_lt}
 use Rattle.std.proofs.lemmas.Bool.Decides.{nat_tests}
 use Rattle.std.proofs.lemmas.Grind.{common_steps}
@@ -324,6 +324,7 @@ put_session s place name old new session puts well =
     before k i low (inr within) high =
         rw (old_start k low within, take-append-le (start session k) session.places (place ∷ []) (omega (arith, well.filled k low within)), runs 0 i, runs k i)
         (unchanged i (is_among (take (start session k) session.places) i) k high (well.before k i low within) (place == i) refl)
+
     by_low : (i : ℕ) (b : Bool) → (if b then is_from_level s 1 (Running s top) else runs_from old s 1 i) ≡ (if b then is_from_level s 0 (Running s top) else runs_from old s 0 i)
     by_low i true = reaches 1 (omega arith) ∙ sym (reaches 0 (omega arith))
     by_low i false = well.low i

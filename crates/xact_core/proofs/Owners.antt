@@ -1,12 +1,11 @@
 -- What the end of levels makes of owners, and so of the owner of each stamp.
-use Rattle.std.proofs.Common.{ℕ, ◌-◌, ◌<◌, ◌≤◌, ◌≡◌, ◌≢◌, Bool, true, false, Option, Some, None, refl, ap, sym, subst, ◌∙◌, arith}
-use Rattle.std.specs.Prelude.{option_map, option_and_then, nat_lt, nat_le, ◌==◌, ◌&&◌, not, if◌then◌else◌}
-use Rattle.std.proofs.lemmas.Bool.{false≢true}
+use Rattle.std.proofs.Common.{ℕ, ◌-◌, ◌<◌, ◌≤◌, ◌≡◌, ◌≢◌, Bool, true, false, Option, Some, None, refl, ap, subst, ◌∙◌, arith}
+use Rattle.std.specs.Prelude.{option_map, option_and_then, nat_lt, ◌&&◌, not, if◌then◌else◌}
 use Rattle.std.proofs.lemmas.Bool.Decides.{nat_tests}
 use Rattle.std.proofs.lemmas.Option.{none-some, same_Some}
 use Rattle.lo_model.specs.declared.owner.Owner.{Owner}
 use Rattle.lo_model.specs.declared.owner.Owner.TheVariants.{Running, Committed}
-use Rattle.lo_model.specs.Levels.{is_from_level, released_owner, committed_owner}
+use Rattle.lo_model.specs.Levels.{is_from_level}
 use Rattle.xact_core.specs.declared.fate.Fate.{Fate}
 use Rattle.xact_core.specs.declared.stamp.Stamp.{Stamp}
 use Rattle.xact_core.specs.Ends.{release, undo, commit_at}

@@ -30,11 +30,13 @@ impl End {
     {
         match owner {
             Owner::Running(session, level) => match self {
-                End::Released(s, from) if session.number() == s.number() && *from <= *level =>
-                    Some(Owner::Running(*s, from.saturating_sub(1))),
+                End::Released(s, from) if session.number() == s.number() && *from <= *level => {
+                    Some(Owner::Running(*s, from.saturating_sub(1)))
+                }
                 End::Undone(s, from) if session.number() == s.number() && *from <= *level => None,
-                End::Committed(s, clock) if session.number() == s.number() =>
-                    Some(Owner::Committed(*clock)),
+                End::Committed(s, clock) if session.number() == s.number() => {
+                    Some(Owner::Committed(*clock))
+                }
                 _ => Some(*owner),
             },
             Owner::Committed(_) => Some(*owner),

@@ -306,11 +306,21 @@ fn repeat(rt: &impl Abort, bench: &mut Bench, times: usize, acts: &[Act]) {
 #[test]
 fn a_hundred_thousand_savepoints(rt: HostRuntime) {
     let mut bench = run(&rt, rt.alloc(), &[Act::Nest(1, b""), Act::Begin(2)]);
-    repeat(&rt, &mut bench, 100_000, &[Act::Push(1, b"a"), Act::Release(1, 2)]);
+    repeat(
+        &rt,
+        &mut bench,
+        100_000,
+        &[Act::Push(1, b"a"), Act::Release(1, 2)],
+    );
     bench.act(&rt, &Act::Levels(1, 1));
     bench.act(&rt, &Act::Push(1, b"a"));
     bench.act(&rt, &Act::Stamp(1));
-    repeat(&rt, &mut bench, 100_000, &[Act::Push(1, b"b"), Act::Undo(1, 2)]);
+    repeat(
+        &rt,
+        &mut bench,
+        10_000,
+        &[Act::Push(1, b"b"), Act::Undo(1, 2)],
+    );
     bench.act(&rt, &Act::Stamp(1));
     for act in &[
         Act::Levels(1, 2),

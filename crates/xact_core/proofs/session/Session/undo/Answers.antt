@@ -1,4 +1,4 @@
-use Rattle.std.proofs.Common.{◌≡◌, subst, take, ◌+◌, ◌-◌, ◌<◌, length, arith}
+use Rattle.std.proofs.Common.{◌≡◌, subst, take, ◌+◌}
 use Rattle.xact_core.specs.Opened.{Opened, opened_of, with_undone}
 use Rattle.xact_core.proofs.SessionFields.{undone_fields, level_within}
 use Rattle.xact_core.proofs.session.Session.undo.Goals as goal

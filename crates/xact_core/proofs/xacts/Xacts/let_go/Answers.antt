@@ -1,4 +1,4 @@
-use Rattle.std.proofs.Common.{◌∷◌, ap, subst, ◌∙◌}
+use Rattle.std.proofs.Common.{◌∷◌, subst}
 use Rattle.std.specs.Prelude.{IsPermutation}
 use Rattle.xact_core.specs.declared.snapshot.Snapshot.{Snapshot}
 use Rattle.xact_core.specs.Kept.{TakesOut}

@@ -1,4 +1,4 @@
-use Rattle.std.proofs.Common.{◌+◌, refl, arith}
+use Rattle.std.proofs.Common.{◌+◌, refl}
 use Rattle.xact_core.proofs.Contracts.{count_stays, ticked_xacts}
 use Rattle.xact_core.proofs.xacts.Xacts.tick.Goals as goal
 

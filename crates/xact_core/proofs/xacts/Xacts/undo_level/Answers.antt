@@ -1,5 +1,4 @@
 use Rattle.std.proofs.Common.{◌+◌, ◌-◌, ◌^◌, ◌<◌, refl, sym, subst, arith}
-use Rattle.xact_core.specs.Inside.{seen_of}
 use Rattle.xact_core.specs.Opened.{opened_at, with_undone}
 use Rattle.xact_core.specs.Transactions.{Transactions}
 use Rattle.xact_core.proofs.Contracts.{level_there, ended, ended_count, taken, undone_by}
