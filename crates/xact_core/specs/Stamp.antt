@@ -34,6 +34,10 @@ pub record HasOwners (x : Transactions) : Type 0 where
   pub level : (st : Stamp) (s l : ℕ) → owner_of x st ≡ Some (Running s l) → (1 ≤ l) × (l ≤ length (levels_of x s))
   pub committed : (st : Stamp) (c : ℕ) → owner_of x st ≡ Some (Committed c) → c ≤ x.clock
 
+-- each open edit of a session stands at one of its first levels
+abbrev pub RunsWithin : Transactions → (session count : ℕ) → Type 0
+RunsWithin x s count = (st : Stamp) (l : ℕ) → owner_of x st ≡ Some (Running s l) → (1 ≤ l) × (l ≤ count)
+
 -- whether a view has an edit that was made at a clock, of an owner, or undone. Undone edits are in no view
 abbrev pub sees_made : Snapshot → (made : ℕ) → Option Owner → Bool
 sees_made v made None = false
@@ -42,3 +46,7 @@ sees_made v made (Some owner) = sees v.clock v.viewer made owner
 -- whether a view has the edit of a stamp, as owners now stand
 abbrev pub sees_stamp : Transactions → Snapshot → Stamp → Bool
 sees_stamp x v st = sees_made v (made_at st) (owner_of x st)
+
+-- two views have the same edits
+abbrev pub SeesSame : Transactions → (v w : Snapshot) → Type 0
+SeesSame x v w = (st : Stamp) → sees_stamp x v st ≡ sees_stamp x w st

@@ -1,7 +1,10 @@
-ghost use Rattle.std.specs.Prelude.{◌≡◌, ℕ, true, false, ◌<◌, ◌≤◌, ◌+◌, ◌-◌, ◌^◌, ◌∷◌, ◌++◌, [], Some, None, length, map, sum_by, take, All, slice_set, OnOk, OnErr, IfOk, MatchOption, Contains, IsPermutation, slice_get};
-ghost use Rattle.xact_core.specs.Inside.{names_of, views_in};
+// The transactions of all sessions: the calls that the crates above use. What a session's levels and fates are made of
+// stands in `session` and `fate`, and no contract of these calls names it.
+ghost use Rattle.std.specs.Prelude.{◌≡◌, ℕ, true, false, ◌<◌, ◌≤◌, ◌+◌, ◌-◌, ◌^◌, ◌∷◌, ◌++◌, [], Some, None, length, map, sum_by, take, All, slice_set, OnOk, OnErr, IfOk, Contains, IsPermutation, slice_get};
+ghost use Rattle.xact_core.specs.Fate.{owner_after};
+ghost use Rattle.xact_core.specs.Inside.{names_of, views_in, AreSessions};
 ghost use Rattle.xact_core.specs.Kept.{view_at, viewer_of, sessions_views, TakesOut};
-ghost use Rattle.xact_core.specs.Opened.{opened_at, with_first, with_none, IsOpened, IsEnded};
+ghost use Rattle.xact_core.specs.Opened.{opened_at, IsOpened, IsReleased, IsOver, IsUndone};
 
 use crate::fate::{End, Fate, turn};
 use crate::session::Session;
@@ -15,7 +18,8 @@ use std::marker::Model;
 /// The transactions of all sessions.
 ///
 /// `fates` has one entry for each level that was ever begun, which is never given back: stamps name it by its place. The
-/// ends of levels and transactions turn only the entries that the session has open.
+/// end of a level turns the entries of that level and of those above it, and an undoing leaves the session one of them. The
+/// end of a transaction turns those that the session has open.
 #[derive(Drop)]
 pub struct Xacts {
     clock: Clock,
@@ -39,10 +43,10 @@ impl Model for Xacts {
 
 impl Xacts {
     ghost use Rattle.lo_model.specs.declared.owner.Owner.TheVariants.{Running};
-    ghost use Rattle.xact_core.specs.Transactions.{beginning, levels_of, HasNo, IsNewest};
-    ghost use Rattle.xact_core.specs.Stamp.{made_at, owner_of, IsIssued, HasOwners, sees_stamp};
+    ghost use Rattle.xact_core.specs.Transactions.{beginning, levels_of, FindsNewest};
+    ghost use Rattle.xact_core.specs.Stamp.{made_at, owner_of, IsIssued, HasOwners, RunsWithin, sees_stamp, SeesSame};
     ghost use Rattle.xact_core.specs.Ends.{Turns, same, release, undo, commit_at, Opens, Ends};
-    ghost use Rattle.xact_core.specs.Kept.{current, current_committed, kept_views, HoldsOthers};
+    ghost use Rattle.xact_core.specs.Kept.{current, current_committed, kept_views, HoldsOthers, LooksWhole, HoldsWholeViews};
     ghost use Rattle.xact_core.specs.Laws.{looks_as, before_release, before_undo, SeesAs, SparesOthers, ShowsFrom};
     ghost use Rattle.xact_core.specs.declared.snapshot.Snapshot.{Snapshot};
     ghost use Rattle.xact_core.specs.declared.stamp.Stamp.{Stamp};
@@ -74,6 +78,7 @@ impl Xacts {
         self.clock += 1;
     }
 
+    /// The present clock: the number of `tick`s so far.
     pub fn now(&self) -> Clock
         ensures { result ≡ self.now.clock }
     {
@@ -115,14 +120,14 @@ impl Xacts {
         ensures sixteen { length self.now.levels ≡ 16 }
         // Each edit is a session's, at one of its levels, or a commit's. The session's own stand at one of these.
         ensures owners { HasOwners self.now }
-        ensures stamps { (st : Stamp) (l : ℕ) → owner_of self.now st ≡ Some (Running s l) → (1 ≤ l) × (l ≤ result) }
+        ensures stamps { RunsWithin self.now s result }
     {
         self.sessions[s.place()].levels() as u64
     }
 
     /// The session's newest level with the name, counted from 1.
     pub fn newest(&self, s: SessionNo, name: &Name) -> Option<u64>
-        ensures { MatchOption result (HasNo (levels_of self.now s) name.now) (IsNewest (levels_of self.now s) name.now) }
+        ensures { FindsNewest (levels_of self.now s) name.now result }
     {
         self.sessions[s.place()].newest(name)
     }
@@ -131,21 +136,14 @@ impl Xacts {
     pub fn release_level(&mut self, s: SessionNo, level: u64)
         requires low { 2 ≤ level }
         requires high { level ≤ length (levels_of self.old s) }
-        ensures ends { Ends (release s level) s (take (level - 1) (levels_of self.old s)) self.old self.new }
+        ensures ends { Ends (release s level) s (level - 1) self.old self.new }
         ensures undos { self.new.undos ≡ self.old.undos }
 
         // Each view has what another had before: the session's whole one what it had, and those of others too.
         ensures views { SeesAs (before_release s level) self.old self.new }
         ensures others { SparesOthers s self.old self.new }
     {
-        let end = End::Released(s, level);
-        end_levels(
-            &mut self.sessions,
-            &mut self.fates,
-            s,
-            &end,
-            level as usize - 1,
-        );
+        release_from(&mut self.sessions, &mut self.fates, s, level);
     }
 
     /// Undoes a level and all above it, and leaves the level empty. The level counts from 1.
@@ -153,7 +151,7 @@ impl Xacts {
         requires low { 1 ≤ level }
         requires high { level ≤ length (levels_of self.old s) }
         requires undos { self.old.undos < 2 ^ 63 }
-        ensures ends { Ends (undo s level) s (take level (levels_of self.old s)) self.old self.new }
+        ensures ends { Ends (undo s level) s level self.old self.new }
         ensures undos { self.new.undos ≡ self.old.undos + 1 }
 
         // Each view has what another had before: the session's whole one what was below the level.
@@ -161,14 +159,13 @@ impl Xacts {
         ensures others { SparesOthers s self.old self.new }
     {
         self.undos += 1;
-        let end = End::Undone(s, level, self.undos);
-        end_levels(&mut self.sessions, &mut self.fates, s, &end, level as usize);
+        undo_from(&mut self.sessions, &mut self.fates, s, level, self.undos);
     }
 
     /// Commits the session's transaction at the present clock.
     pub fn commit(&mut self, s: SessionNo)
         requires { 0 < length (levels_of self.old s) }
-        ensures ends { Ends (commit_at s self.old.clock) s [] self.old self.new }
+        ensures ends { Ends (commit_at s self.old.clock) s 0 self.old self.new }
         ensures undos { self.new.undos ≡ self.old.undos }
 
         // Later views have all of the session's edits, and earlier ones none. No other edit comes or goes.
@@ -181,14 +178,14 @@ impl Xacts {
     /// Undoes the session's transaction, and ends it.
     pub fn abort(&mut self, s: SessionNo)
         requires { 0 < length (levels_of self.old s) }
-        ensures ends { Ends (undo s 1) s [] self.old self.new }
+        ensures ends { Ends (undo s 1) s 0 self.old self.new }
         ensures undos { self.new.undos ≡ self.old.undos }
 
         // Each view has what another had before: the session's whole one what was below level 1.
         ensures views { SeesAs (before_undo s 1) self.old self.new }
         ensures others { SparesOthers s self.old self.new }
     {
-        let end = End::Aborted(s);
+        let end = End::Undone(s, 1);
         end_transaction(&mut self.sessions, &mut self.fates, s, &end);
     }
 
@@ -214,7 +211,7 @@ impl Xacts {
         ensures view { result ≡ current self.now s }
         ensures kept { 0 < length (levels_of self.now s) → Contains (kept_views self.now) result }
         // Without a transaction it has what the view of what is committed has.
-        ensures none { levels_of self.now s ≡ [] → (st : Stamp) → sees_stamp self.now result st ≡ sees_stamp self.now (current_committed self.now) st }
+        ensures none { levels_of self.now s ≡ [] → SeesSame self.now result (current_committed self.now) }
     {
         // Numbers of sessions begin at 1.
         let _ = s.number();
@@ -291,6 +288,7 @@ impl Xacts {
         ensures err { OnErr result (self.new ≡ self.old) }
         ensures owners { Turns same self.old self.new }
         ensures others { HoldsOthers self.old self.new }
+        ensures whole { LooksWhole snap.viewer → HoldsWholeViews self.old → HoldsWholeViews self.new }
     {
         let hold = Hold::new(snap);
         self.held.push(hold.snapshot())?;
@@ -306,6 +304,7 @@ impl Xacts {
         ensures views { length (kept_views self.new) + 1 ≡ length (kept_views self.old) }
         ensures owners { Turns same self.old self.new }
         ensures others { HoldsOthers self.old self.new }
+        ensures whole { HoldsWholeViews self.old → HoldsWholeViews self.new }
     {
         take_out(&mut self.held, hold.snapshot());
     }
@@ -345,28 +344,44 @@ fn open_level(
     Ok(())
 }
 
-/// Ends a session's levels but the first ones, of which `left` stay.
-fn end_levels(
+/// Merges a session's level and all above it into the level below it.
+fn release_from(sessions: &mut Vec<Session>, fates: &mut Vec<Fate>, s: SessionNo, level: u64)
+    requires well { AreSessions sessions.old.items fates.old.items }
+    requires low { 2 ≤ level }
+    requires high { level ≤ length (opened_at sessions.old.items (s - 1)).names }
+    ensures { IsReleased s level sessions.old.items sessions.new.items fates.old.items fates.new.items }
+{
+    let session = &mut sessions[s.place()];
+    turn(fates, session.places_from(level), &End::Released(s, level));
+    session.release(level);
+}
+
+/// Undoes a session's level and all above it, and leaves the level empty. `undos` counts the undoings so far.
+fn undo_from(
     sessions: &mut Vec<Session>,
     fates: &mut Vec<Fate>,
     s: SessionNo,
-    end: &End,
-    left: usize,
+    level: u64,
+    undos: u64,
 )
-    requires sixteen { length sessions.old.items ≡ 16 }
-    requires places { All (λ i. i < length fates.old.items) (opened_at sessions.old.items (s - 1)).places }
-    ensures { IsEnded end.now s (with_first left) sessions.old.items sessions.new.items fates.old.items fates.new.items }
+    requires well { AreSessions sessions.old.items fates.old.items }
+    requires low { 1 ≤ level }
+    requires high { level ≤ length (opened_at sessions.old.items (s - 1)).names }
+    ensures { IsUndone s level undos sessions.old.items sessions.new.items fates.old.items fates.new.items }
 {
     let session = &mut sessions[s.place()];
-    turn(fates, session.places(), end);
-    session.truncate(left);
+    turn(fates, session.places_from(level), &End::Undone(s, level));
+    fates[session.first(level)] = Fate {
+        owner: Some(Owner::Running(s, level)),
+        since: undos,
+    };
+    session.undo(level);
 }
 
 /// Ends a session's transaction.
 fn end_transaction(sessions: &mut Vec<Session>, fates: &mut Vec<Fate>, s: SessionNo, end: &End)
-    requires sixteen { length sessions.old.items ≡ 16 }
-    requires places { All (λ i. i < length fates.old.items) (opened_at sessions.old.items (s - 1)).places }
-    ensures { IsEnded end.now s with_none sessions.old.items sessions.new.items fates.old.items fates.new.items }
+    requires well { AreSessions sessions.old.items fates.old.items }
+    ensures { IsOver (owner_after end.now) s sessions.old.items sessions.new.items fates.old.items fates.new.items }
 {
     let session = &mut sessions[s.place()];
     turn(fates, session.places(), end);
