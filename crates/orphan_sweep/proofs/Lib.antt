@@ -1,3 +1,4 @@
+pub mod ActKinds
 pub mod Groups
 pub mod Places
 pub mod Steps

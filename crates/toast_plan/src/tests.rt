@@ -1,3 +1,4 @@
+//! Worked rows and their edges, typed from the rules, and each public call once.
 ghost use Rattle.std.specs.Prelude.{◌↔◌, IsTrue};
 ghost use Rattle.toast_plan.specs.Row.{FitsType, FitColumns, StartsWithId};
 ghost use Rattle.toast_plan.specs.Columns.{AreLengths, HasLengthIfThere};
