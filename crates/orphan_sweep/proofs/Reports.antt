@@ -12,7 +12,7 @@ use Rattle.orphan_sweep.specs.Law.{AreAnswers, asked, and_all_told, is_report, I
 use Rattle.orphan_sweep.proofs.Groups.{none-work, work}
 use Rattle.orphan_sweep.proofs.Histories.{not_true, right_or}
 use Rattle.orphan_sweep.proofs.ActKinds.{the_refused, the_scan}
-use Rattle.orphan_sweep.proofs.ToldLaw.{state-told}
+use Rattle.orphan_sweep.proofs.OneMoreAnswer.{state-told}
 
 abbrev is_last : SweepAct → Bool
 is_last (Scanning table column) = false

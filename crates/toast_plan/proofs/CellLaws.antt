@@ -1,7 +1,7 @@
 -- The lengths and the tags of cells.
-use Rattle.std.proofs.Common.{◌≡◌, ℕ, suc, ◌≤◌, ◌^◌, List, [], ◌∷◌, length, map, Option, Some, None, refl, sym, ap, ap₂, subst, ◌∙◌, arith}
+use Rattle.std.proofs.Common.{◌≡◌, ℕ, suc, ◌≤◌, List, [], ◌∷◌, length, map, Some, None, refl, sym, ap, ap₂, subst, ◌∙◌, arith}
 use Rattle.lo_base.specs.declared.value.Cell.{Cell}
-use Rattle.std.proofs.Common.{Bool, ◌++◌, take, drop, length-append, length-drop}
+use Rattle.std.proofs.Common.{◌++◌, take, drop, length-append, length-drop}
 use Rattle.std.proofs.lemmas.List.{length-map, take_at}
 use Rattle.std.proofs.lemmas.Option.{same_Some}
 use Rattle.lo_base.specs.declared.column.Column.{Column}

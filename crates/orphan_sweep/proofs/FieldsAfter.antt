@@ -1,12 +1,12 @@
 -- What an answer does to a sweep, by its fields.
-use Rattle.std.proofs.Common.{◌≡◌, ℕ, ◌+◌, ◌-◌, ◌<◌, ◌≤◌, ◌⊎◌, Bool, IsTrue, List, ◌++◌, length, drop, map, reverse, refl, ap, sym, ◌∙◌, subst}
+use Rattle.std.proofs.Common.{◌≡◌, ℕ, ◌+◌, ◌-◌, ◌<◌, ◌≤◌, ◌⊎◌, Bool, IsTrue, List, ◌++◌, length, drop, map, reverse, ap, sym, ◌∙◌, subst}
 use Rattle.std.proofs.lemmas.List.{reverse-reverse}
 use Rattle.std.proofs.lemmas.List.Kept.{IsStrictlyIncreasing-filter}
 use Rattle.std.specs.List.Sorted.{IsStrictlyIncreasing}
 use Rattle.orphan_sweep.specs.declared.act.Scan.{Scan}
 use Rattle.orphan_sweep.specs.declared.act.SweepAct.{SweepAct}
-use Rattle.orphan_sweep.specs.declared.act.SweepAct.TheVariants.{Scan as Scanning, Begin, Unlink, Commit, Rollback, Report, Idle}
-use Rattle.orphan_sweep.specs.declared.act.Told.TheVariants.{Found, Granted, Refused}
+use Rattle.orphan_sweep.specs.declared.act.SweepAct.TheVariants.{Scan as Scanning, Begin, Unlink, Commit, Report}
+use Rattle.orphan_sweep.specs.declared.act.Told.TheVariants.{Found, Granted}
 use Rattle.orphan_sweep.specs.declared.sweep.Sweep.TheInside.{Inside}
 use Rattle.orphan_sweep.specs.Rest.{less}
 use Rattle.orphan_sweep.specs.Plan.{scan_act, removal, is_answer_to}

@@ -17,7 +17,7 @@ use Rattle.orphan_sweep.proofs.Groups.{unlinks-append, unlinks-groups, concat-gr
 use Rattle.orphan_sweep.proofs.Histories.{none-drop, is_ending, acts-whole, take-more, not_true, right_or}
 use Rattle.orphan_sweep.specs.Place.{is_unlink}
 use Rattle.orphan_sweep.proofs.ActKinds.{the_refused}
-use Rattle.orphan_sweep.proofs.ToldLaw.{plan_of, rest-kept, left_there, done-granted, done-refused_of, whole-found, acts-found, state-granted, state-refused}
+use Rattle.orphan_sweep.proofs.OneMoreAnswer.{plan_of, rest-kept, left_there, done-granted, done-refused_of, whole-found, acts-found, state-granted, state-refused}
 
 -- the answers of a history that is told more
 told-answers : (h : History) (answers : List Told) → and_all_told h answers ≡ record { dry = h.dry; limit = h.limit; list = h.list; scans = h.scans; answers = h.answers ++ answers }

@@ -4,7 +4,7 @@ use Rattle.std.proofs.lemmas.List.Elements.{filter-append}
 use Rattle.std.specs.List.{filter, concat, list_any}
 use Rattle.orphan_sweep.specs.declared.act.Scan.{Scan}
 use Rattle.orphan_sweep.specs.declared.act.SweepAct.{SweepAct}
-use Rattle.orphan_sweep.specs.declared.act.SweepAct.TheVariants.{Scan as Scanning, Begin, Unlink, Commit, Rollback, Report, Idle}
+use Rattle.orphan_sweep.specs.declared.act.SweepAct.TheVariants.{Commit}
 use Rattle.orphan_sweep.specs.declared.act.Told.{Told}
 use Rattle.orphan_sweep.specs.declared.act.Told.TheVariants.{Found, Granted, Refused}
 use Rattle.orphan_sweep.specs.Rest.{less}
