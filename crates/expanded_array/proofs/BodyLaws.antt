@@ -1,5 +1,5 @@
 -- A text with its bounds and the bytes between its braces, and the arrays that it spells.
-use Rattle.std.proofs.Common.{◌≡◌, ◌<◌, ◌≤◌, ◌^◌, ℕ, ℤ, List, [], ◌∷◌, ◌++◌, length, true, false, Bool, cond, Option, Some, None, Result, Ok, Err, refl, ap, sym, subst, ◌∙◌, arith, inl, inr}
+use Rattle.std.proofs.Common.{◌≡◌, ◌<◌, ◌≤◌, ℕ, ℤ, List, [], ◌∷◌, ◌++◌, length, true, false, cond, Option, Result, Ok, Err, refl, ap, sym, subst, ◌∙◌, arith, inl, inr}
 use Rattle.std.specs.Prelude.{◌≤ℤ◌, IfOk, IfErr, codes}
 use Rattle.std.specs.List.{list_all, slice_split}
 use Rattle.std.proofs.lemmas.Bool.{cases_Bool, true≢false}
@@ -9,11 +9,11 @@ use Rattle.lo_base.specs.declared.refusal.Denied.TheVariants.{By, NoMemory}
 use Rattle.lo_base.specs.declared.refusal.Refusal.{Refusal}
 use Rattle.expanded_array.specs.declared.expanded.Expanded.{Expanded}
 use Rattle.expanded_array.specs.Answer.{too_big}
-use Rattle.expanded_array.specs.Array.{Array, Empty, Bounded, IsHeld, last_of, last_limit, limit, size_of}
+use Rattle.expanded_array.specs.Array.{Array, Empty, Bounded, IsHeld, last_of, last_limit, limit}
 use Rattle.expanded_array.specs.Layout.{array_of}
 use Rattle.expanded_array.specs.Kept.{expanded_array}
 use Rattle.expanded_array.specs.Read.{is_element}
-use Rattle.expanded_array.specs.Spelling.{HasBody, IsBoundedDenial, IsTextDenial, IsTooBig, Spells, SpellsBounded, SpellsBounds, SpellsElement, SpellsElements, SpellsNone, is_comma, malformed}
+use Rattle.expanded_array.specs.Spelling.{HasBody, IsBoundedDenial, IsTextDenial, IsTooBig, Spells, SpellsBounded, SpellsBounds, SpellsElements, SpellsNone, is_comma, malformed}
 use Rattle.expanded_array.proofs.ReadLaws.{all_elements, zip_all}
 use Rattle.expanded_array.proofs.Uniqueness.{body_elements, length_all_zip_of, spelled_array, spelled_bounds}
 

@@ -1,5 +1,5 @@
 -- A list of elements that grows at both ends: nulls in its free places, and the elements behind them.
-use Rattle.std.proofs.Common.{◌≡◌, ◌+◌, ◌-◌, ◌<◌, ◌≤◌, ℕ, suc, ℤ, List, ◌∷◌, ◌++◌, length, max, take, drop, replicate, Option, None, ap, sym, ◌∙◌, arith, add-one}
+use Rattle.std.proofs.Common.{◌≡◌, ◌+◌, ◌-◌, ◌<◌, ◌≤◌, ℕ, ℤ, List, ◌∷◌, ◌++◌, length, max, take, drop, replicate, Option, None, ap, sym, ◌∙◌, arith}
 use Rattle.std.specs.Prelude.{set}
 use Rattle.std.proofs.lemmas.List.{length-append, length-drop, length-replicate, take-append-drop, take-append-le, drop-append-le, take_all, take_at, take-set, take-set-le, drop-set, drop-set-add, take-replicate, drop-replicate}
 

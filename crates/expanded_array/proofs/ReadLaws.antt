@@ -1,15 +1,15 @@
 -- What is computed of a text is what it spells.
-use Rattle.std.proofs.Common.{◌≡◌, ◌↔◌, ◌+◌, ◌-◌, ◌<◌, ◌≤◌, ◌^◌, ℕ, zero, suc, ℤ, pos, negsuc, List, [], ◌∷◌, ◌++◌, length, map, take, drop, Bool, true, false, ◌&&◌, cond, Option, Some, None, refl, ap, ap₂, sym, subst, ◌∙◌, arith, inl, inr, nat_lt}
+use Rattle.std.proofs.Common.{◌≡◌, ◌-◌, ◌≤◌, ℕ, ℤ, pos, negsuc, List, [], ◌∷◌, length, map, true, ◌&&◌, Option, Some, None, refl, ap, sym, subst, ◌∙◌, arith, inl, inr, nat_lt}
 use Rattle.std.specs.Prelude.{IfSome, IfNone, FitsSigned, bytes_eq, codes, int_le, is_some, option_map, ◌≤ℤ◌}
 use Rattle.std.specs.Char.{to_ascii_lowercase, digit_value}
 use Rattle.std.specs.Int.{w32}
-use Rattle.std.specs.List.{AllZip, list_all, slice_split}
+use Rattle.std.specs.List.{AllZip, list_all}
 use Rattle.std.specs.Str.Parse.{AllDigits, IsNumeral, signed_digits_value, without_leading_sign}
-use Rattle.std.proofs.lemmas.Bool.{and_from, and_parts, cases_Bool, cond-true, cond-false, ltb-true, lt-ltb, true≢false, false≢true}
+use Rattle.std.proofs.lemmas.Bool.{and_from, and_parts, cases_Bool, cond-true, cond-false, ltb-true, lt-ltb}
 use Rattle.std.proofs.lemmas.Int.{ints}
 use Rattle.std.proofs.lemmas.Option.{same_Some}
 use Rattle.std.proofs.lemmas.Slice.Eq.{bytes_eq-Decides}
-use Rattle.expanded_array.specs.Spelling.{SpellsElement, SpellsElements, is_comma}
+use Rattle.expanded_array.specs.Spelling.{SpellsElement}
 use Rattle.expanded_array.proofs.FlatLaws.{le_tells, tells_le}
 use Rattle.expanded_array.proofs.Uniqueness.{word_no_number}
 use Rattle.expanded_array.specs.Read.{element_of, is_element, is_int4, is_numeral, number_of}

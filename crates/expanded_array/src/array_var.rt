@@ -213,7 +213,7 @@ impl ArrayVar {
         }
     }
 
-    /// Writes the flat bytes.
+    /// Writes the flat bytes (PostgreSQL source, utils/array.h) into as many bytes as `flat_len` says. Takes no memory.
     pub fn flatten_into(&self, out: &mut [u8])
         requires { length out.old ≡ length (flat_bytes self.now) }
         ensures written { out.new ≡ flat_bytes self.now }

@@ -20,7 +20,8 @@ pub fn flat_bytes_are_read()
 
 /// Setting a subscript changes the element there and no other, inside the bounds and outside.
 pub fn set_changes_one()
-    ensures { (a : Array) (sub other : ℤ) (value : Option ℤ) → element_at (array_set a sub value) other ≡ (if int_eq other sub then value else element_at a other) }
+    ensures { (a : Array) (sub other : ℤ) (value : Option ℤ) →
+        element_at (array_set a sub value) other ≡ (if int_eq other sub then value else element_at a other) }
 {}
 
 /// A text spells one array at most.

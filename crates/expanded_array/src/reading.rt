@@ -168,7 +168,8 @@ fn is_element(piece: &[u8]) -> bool
 fn are_elements(body: &[u8]) -> bool
     ensures { result ≡ list_all is_element (slice_split is_comma body.now) }
 {
-    body.split(|byte| *byte == b',').all(|piece| is_element(piece))
+    body.split(|byte| *byte == b',')
+        .all(|piece| is_element(piece))
 }
 
 /// The lower bound, the number of elements and the bytes between the braces, where the bounds are those of so many elements.

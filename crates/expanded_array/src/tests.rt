@@ -1,6 +1,7 @@
 //! Worked values, and each public call once.
-use crate::{ArrayVar, is_flat};
+use crate::*;
 use lo_base::{Bytes, Cause, Denied, Refusal};
+use std::alloc::{AllocError, Global};
 use std::process::Abort;
 use std::test::Fail;
 
@@ -65,11 +66,15 @@ fn changes_empty(rt: HostRuntime) -> Result<(), Fail> {
     Ok(())
 }
 
-fn too_big(subject: i64) -> Result<(), Denied> {
-    Err(Denied::By(Refusal {
+fn too_big_array(subject: i64) -> Denied {
+    Denied::By(Refusal {
         cause: Cause::ArrayTooBig,
         subject,
-    }))
+    })
+}
+
+fn too_big(subject: i64) -> Result<(), Denied> {
+    Err(too_big_array(subject))
 }
 
 /// The limit itself is allowed, one element more is not, and then nothing has changed.
@@ -296,19 +301,84 @@ fn bad_array() -> Denied {
     })
 }
 
-/// A text of one element more than the limit.
-#[test]
-fn refuses_long_text(rt: HostRuntime) -> Result<(), Fail> {
-    let mut text = Vec::from_slice(rt.alloc(), b"{1")?;
-    for _ in 0..1_048_576 {
-        text.extend_from_slice(b",1")?;
+/// The text of so many elements, of which the last is given and the others are 1.
+fn long_text(alloc: Global, count: usize, last: &[u8]) -> Result<Vec<u8>, AllocError> {
+    let mut text = Vec::from_slice(alloc, b"{")?;
+    for _ in 1..count {
+        text.extend_from_slice(b"1,")?;
     }
+    text.extend_from_slice(last)?;
     text.push(b'}')?;
-    match ArrayVar::from_text(rt.alloc(), &text) {
-        Ok(_) => assert!(rt; false),
-        Err(denied) => assert!(rt; Err(denied) == too_big(1_048_577)),
+    Ok(text)
+}
+
+/// As many elements as there may be are read.
+#[test]
+fn reads_the_longest_text(rt: HostRuntime) -> Result<(), Fail> {
+    let alloc = rt.alloc();
+    match ArrayVar::from_text(alloc, &long_text(alloc, 1_048_576, b"7")?) {
+        Ok(array) => {
+            assert_eq!(rt; array.flat_len(), 4_194_324);
+            assert_eq!(rt; array.get(1_048_576), Some(7));
+        }
+        Err(_) => assert!(rt; false),
     }
     Ok(())
+}
+
+fn check_too_long(
+    rt: &impl Abort,
+    alloc: Global,
+    last: &[u8],
+    refusal: Denied,
+) -> Result<(), Fail> {
+    match ArrayVar::from_text(alloc, &long_text(alloc, 1_048_577, last)?) {
+        Ok(_) => assert!(rt; false),
+        Err(denied) => assert!(rt; denied == refusal),
+    }
+    Ok(())
+}
+
+/// One element more is too many.
+#[test]
+fn refuses_a_longer_text(rt: HostRuntime) -> Result<(), Fail> {
+    check_too_long(&rt, rt.alloc(), b"7", too_big_array(1_048_577))
+}
+
+/// But a malformed one among them is what counts.
+#[test]
+fn refuses_a_longer_malformed_text(rt: HostRuntime) -> Result<(), Fail> {
+    check_too_long(&rt, rt.alloc(), b"x", bad_array())
+}
+
+/// An array that grows below its first element a hundred thousand times, and then by a gap.
+#[test]
+fn grows_below(rt: HostRuntime) -> Result<(), Fail> {
+    assert!(rt; is_flat(&ONE_TWO));
+    let mut array = ArrayVar::from_flat(Bytes::from_slice(rt.alloc(), &ONE_TWO)?);
+    for step in 0..100_000 {
+        assert!(rt; array.set(-step, Some(step)).is_ok());
+    }
+    assert!(rt; array.set(-300_000, None).is_ok());
+    assert_eq!(rt; array.get(2), Some(2));
+    assert_eq!(rt; array.get(0), Some(0));
+    assert_eq!(rt; array.get(-99_999), Some(99_999));
+    assert_eq!(rt; array.get(-100_000), None);
+    assert!(rt; array.set(1_000_000, Some(5)) == too_big(1_300_001));
+    assert!(rt; array.set(700_000, Some(5)).is_ok());
+    assert_eq!(rt; array.get(-1), Some(1));
+    assert_eq!(rt; array.get(700_000), Some(5));
+    Ok(())
+}
+
+#[test]
+fn laws_are_called() {
+    flat_bytes_are_read();
+    flat_bytes_tell();
+    printed_text_spells();
+    set_changes_one();
+    text_spells_one();
+    texts_are_read();
 }
 
 /// An array that was read answers as one that was flat.

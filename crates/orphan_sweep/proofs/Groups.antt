@@ -1,15 +1,18 @@
 -- How the groups are cut, and what their acts unlink.
-use Rattle.std.proofs.Common.{◌≡◌, ◌==◌, ℕ, zero, suc, ◌<◌, ◌≤◌, min, false, List, [], ◌∷◌, ◌++◌, length, take, drop, map, refl, ap, ◌∙◌, arith, length-drop, append_assoc, append-nil}
+use Rattle.std.proofs.Common.{◌≡◌, ◌==◌, ℕ, zero, suc, ◌<◌, ◌≤◌, min, Bool, false, List, [], ◌∷◌, ◌++◌, length, take, drop, map, refl, ap, ◌∙◌, arith, length-drop, append_assoc, append-nil}
 use Rattle.std.proofs.lemmas.Bool.Decides.{nat_tests}
 use Rattle.std.proofs.lemmas.List.{take-append-drop}
 use Rattle.std.proofs.Math.Nat.{suc-min-suc, zero-min, min-zero}
 use Rattle.std.proofs.Math.Seq.{drop-length}
+use Rattle.std.proofs.lemmas.Bool.{or_from}
 use Rattle.std.proofs.lemmas.List.Concat.{flat_map-append}
-use Rattle.std.specs.List.{flat_map, concat}
+use Rattle.std.proofs.lemmas.List.Folds.{list_any-append}
+use Rattle.std.specs.List.{flat_map, concat, list_any}
+use Rattle.orphan_sweep.specs.declared.act.Scan.{Scan}
 use Rattle.orphan_sweep.specs.declared.act.SweepAct.{SweepAct}
-use Rattle.orphan_sweep.specs.declared.act.SweepAct.TheVariants.{Begin, Unlink, Commit, Report}
+use Rattle.orphan_sweep.specs.declared.act.SweepAct.TheVariants.{Scan as Scanning, Begin, Unlink, Commit, Report}
 use Rattle.orphan_sweep.specs.Rest.{pieces, groups}
-use Rattle.orphan_sweep.specs.Plan.{group_acts, removal, unlinks, unlinked_by}
+use Rattle.orphan_sweep.specs.Plan.{scan_act, group_acts, removal, unlinks, unlinked_by}
 use Rattle.orphan_sweep.specs.Place.{group_size, in_group}
 
 -- the count of the pieces does not matter where it is large enough
@@ -93,3 +96,30 @@ removal_opens limit x xs =
     let first : List SweepAct = map (λ o. Unlink o) (take n (x ∷ xs)) in
     let others : List SweepAct = flat_map group_acts (groups limit (drop n (x ∷ xs))) in
     ap (λ gs. flat_map group_acts gs ++ Report ∷ []) (groups_opens limit x xs) ∙ ap (λ acts. Begin ∷ acts) (append_assoc (first ++ Commit ∷ []) others (Report ∷ []) ∙ append_assoc first (Commit ∷ []) (others ++ Report ∷ []))
+
+-- ---- acts that are not there
+
+-- a test that neither a scan nor an act of a group passes
+pub record SparesWork (p : SweepAct → Bool) : Type 0 where
+  pub scan : (table column : List ℕ) → p (Scanning table column) ≡ false
+  pub begin : p Begin ≡ false
+  pub unlink : (o : ℕ) → p (Unlink o) ≡ false
+  pub commit : p Commit ≡ false
+
+-- the scans and the groups
+abbrev pub work : List Scan → List (List ℕ) → List SweepAct
+work scans gs = map scan_act scans ++ flat_map group_acts gs
+
+none-group : (p : SweepAct → Bool) → SparesWork p → (g : List ℕ) → list_any p (map (λ o. Unlink o) g ++ Commit ∷ []) ≡ false
+none-group p spares [] = or_from (p Commit) false spares.commit refl
+none-group p spares (o ∷ g) = or_from (p (Unlink o)) (list_any p (map (λ o. Unlink o) g ++ Commit ∷ [])) (spares.unlink o) (none-group p spares g)
+
+none-groups : (p : SweepAct → Bool) → SparesWork p → (gs : List (List ℕ)) → list_any p (flat_map group_acts gs) ≡ false
+none-groups p spares [] = refl
+none-groups p spares (g ∷ gs) =
+    list_any-append p (group_acts g) (flat_map group_acts gs)
+    ∙ or_from (list_any p (group_acts g)) (list_any p (flat_map group_acts gs)) (or_from (p Begin) (list_any p (map (λ o. Unlink o) g ++ Commit ∷ [])) spares.begin (none-group p spares g)) (none-groups p spares gs)
+
+pub none-work : (p : SweepAct → Bool) → SparesWork p → (scans : List Scan) (gs : List (List ℕ)) → list_any p (work scans gs) ≡ false
+none-work p spares [] gs = none-groups p spares gs
+none-work p spares (scan ∷ scans) gs = or_from (p (scan_act scan)) (list_any p (work scans gs)) (spares.scan scan.table scan.column) (none-work p spares scans gs)

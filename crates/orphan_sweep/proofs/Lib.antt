@@ -1,12 +1,13 @@
+pub mod ActKinds
 pub mod Groups
 pub mod Places
-pub mod Steps
+pub mod FieldsAfter
 pub mod Histories
 pub mod Commits
-pub mod ToldLaw
+pub mod OneMoreAnswer
 pub mod Rests
 pub mod Merge
-pub mod Laws
+pub mod AskedActs
 pub mod Reports
 pub mod Endings
 mod Examples

@@ -1,6 +1,5 @@
 -- The report is the last act, and comes once.
 use Rattle.std.proofs.Common.{◌≡◌, ◌↔◌, ℕ, Bool, true, false, ◌||◌, IsTrue, ◌⊎◌, inl, inr, List, [], ◌∷◌, ◌++◌, length, drop, map, refl, ap, sym, ◌∙◌, subst, append_assoc}
-use Rattle.std.proofs.lemmas.List.Folds.{list_any-append}
 use Rattle.std.specs.List.{list_any, flat_map}
 use Rattle.orphan_sweep.specs.declared.act.Scan.{Scan}
 use Rattle.orphan_sweep.specs.declared.act.SweepAct.{SweepAct}
@@ -10,8 +9,10 @@ use Rattle.orphan_sweep.specs.declared.act.Told.TheVariants.{Found, Granted, Ref
 use Rattle.orphan_sweep.specs.Plan.{scan_act, group_acts, groups_to_remove, removal, is_answer_to}
 use Rattle.orphan_sweep.specs.History.{History, begun, and_told, acts_left, first_act, next_act}
 use Rattle.orphan_sweep.specs.Law.{AreAnswers, asked, and_all_told, is_report, IsIdleAfterReport}
+use Rattle.orphan_sweep.proofs.Groups.{none-work, work}
 use Rattle.orphan_sweep.proofs.Histories.{not_true, right_or}
-use Rattle.orphan_sweep.proofs.ToldLaw.{state-told}
+use Rattle.orphan_sweep.proofs.ActKinds.{the_refused, the_scan}
+use Rattle.orphan_sweep.proofs.OneMoreAnswer.{state-told}
 
 abbrev is_last : SweepAct → Bool
 is_last (Scanning table column) = false
@@ -28,25 +29,12 @@ record Ready (acts : List SweepAct) : Type 0 where
   pub none : list_any is_last before ≡ false
   pub is : acts ≡ before ++ Report ∷ []
 
-last-group : (g : List ℕ) → list_any is_last (map (λ o. Unlink o) g ++ Commit ∷ []) ≡ false
-last-group [] = refl
-last-group (o ∷ g) = last-group g
-
-last-groups : (gs : List (List ℕ)) → list_any is_last (flat_map group_acts gs) ≡ false
-last-groups [] = refl
-last-groups (g ∷ gs) =
-    list_any-append is_last (group_acts g) (flat_map group_acts gs) ∙ ap (λ b. b || list_any is_last (flat_map group_acts gs)) (last-group g) ∙ last-groups gs
-
-last-work : (scans : List Scan) (gs : List (List ℕ)) → list_any is_last (map scan_act scans ++ flat_map group_acts gs) ≡ false
-last-work [] gs = last-groups gs
-last-work (scan ∷ scans) gs = last-work scans gs
-
 ready_plan : (scans : List Scan) (dry : Bool) (limit : ℕ) (rest : List ℕ) → Ready (map scan_act scans ++ removal dry limit rest)
 ready_plan scans dry limit rest =
     let gs : List (List ℕ) = groups_to_remove dry limit rest in
     record {
-      before = map scan_act scans ++ flat_map group_acts gs;
-      none = last-work scans gs;
+      before = work scans gs;
+      none = none-work is_last (record { scan = λ table column. refl; begin = refl; unlink = λ o. refl; commit = refl }) scans gs;
       is = sym (append_assoc (map scan_act scans) (flat_map group_acts gs) (Report ∷ []));
     }
 
@@ -72,32 +60,13 @@ leaves-granted h (act ∷ before) none is fits =
     let later : list_any is_last before ≡ false = not_true (list_any is_last before) (λ e. let k = right_or (is_last act) (list_any is_last before) e in cc) in
     inr (ap (λ acts. is_report (first_act acts)) is ∙ not_last act first, record { before = before; none = later; is = ap (λ s. s.left) (state-told h Granted fits) ∙ ap (drop 1) is })
 
--- neither a scan nor an unlink is the report
-not_report-found : (act : SweepAct) (numbers : List ℕ) → is_answer_to act (Found numbers) ≡ true → is_report act ≡ false
-not_report-found (Scanning table column) numbers h = refl
-not_report-found Begin numbers h = refl
-not_report-found (Unlink o) numbers h = refl
-not_report-found Commit numbers h = refl
-not_report-found Rollback numbers h = refl
-not_report-found Report numbers h = cc
-not_report-found Idle numbers h = refl
-
-not_report-refused : (act : SweepAct) → is_answer_to act Refused ≡ true → is_report act ≡ false
-not_report-refused (Scanning table column) h = refl
-not_report-refused Begin h = refl
-not_report-refused (Unlink o) h = refl
-not_report-refused Commit h = refl
-not_report-refused Rollback h = refl
-not_report-refused Report h = cc
-not_report-refused Idle h = refl
-
 leaves : (h : History) (answer : Told) → Ready (acts_left h) → is_answer_to (next_act h) answer ≡ true → Leaves h answer
 leaves h (Found numbers) ready fits =
     let next = ready_plan (drop 1 (drop (length h.answers) h.scans)) h.dry h.limit _ in
-    inr (not_report-found (next_act h) numbers fits, subst Ready (sym (ap (λ s. s.left) (state-told h (Found numbers) fits))) next)
+    inr (ap is_report (the_scan (next_act h) numbers fits).2, subst Ready (sym (ap (λ s. s.left) (state-told h (Found numbers) fits))) next)
 leaves h Granted ready fits = leaves-granted h ready.before ready.none ready.is fits
 leaves h Refused ready fits =
-    inr (not_report-refused (next_act h) fits, record { before = Rollback ∷ []; none = refl; is = ap (λ s. s.left) (state-told h Refused fits) })
+    inr (ap is_report (the_refused (next_act h) fits).1, record { before = Rollback ∷ []; none = refl; is = ap (λ s. s.left) (state-told h Refused fits) })
 
 -- nothing is answered after the report
 over : (h : History) (answers : List Told) → acts_left h ≡ [] → AreAnswers h answers → (next_act (and_all_told h answers) ≡ Idle) × (asked h answers ≡ [])

@@ -1,3 +1,4 @@
+-- What fixes a sweep: its list, its scans and the answers so far. All that is public of a sweep is said by these words.
 use Rattle.std.specs.Prelude.{ℕ, Bool, true, false, List, [], ◌∷◌, ◌++◌, length, take, drop, map, filter}
 use Rattle.std.specs.List.{flat_map, concat}
 use Rattle.orphan_sweep.specs.declared.act.Scan.{Scan}

@@ -1,3 +1,4 @@
+-- What the fields of a sweep stand for, and what holds of them.
 use Rattle.std.specs.Prelude.{reverse}
 use Rattle.std.specs.List.Sorted.{IsStrictlyIncreasing}
 use Rattle.orphan_sweep.specs.declared.sweep.Sweep.TheInside.{Inside}

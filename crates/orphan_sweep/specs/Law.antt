@@ -1,3 +1,4 @@
+-- What holds of every sweep, over any answers. `src/law.rt` promises these.
 use Rattle.std.specs.Prelude.{◌≡◌, ◌≤◌, ◌<◌, ◌+◌, ◌↔◌, ℕ, Bool, true, false, IsTrue, List, [], ◌∷◌, ◌++◌, length, take, map, filter, All, Contains, slice_index_or}
 use Rattle.std.specs.List.{list_any, flat_map, concat}
 use Rattle.std.specs.List.Sorted.{IsStrictlyIncreasing}
@@ -9,6 +10,12 @@ use Rattle.orphan_sweep.specs.declared.act.Told.TheVariants.{Found, Granted, Ref
 use Rattle.orphan_sweep.specs.Rest.{groups}
 use Rattle.orphan_sweep.specs.Plan.{scan_act, group_acts, groups_to_remove, removal, is_answer_to, unlinks}
 use Rattle.orphan_sweep.specs.History.{History, begun, and_told, rest_of, next_act, is_commit, removed_of}
+use Rattle.orphan_sweep.specs.State.{state_of}
+use Rattle.orphan_sweep.specs.Place.{after}
+
+-- the state after an answer of the act's kind is fixed by the state before it
+abbrev pub KeepsState : History → Told → Type 0
+KeepsState h answer = IsTrue (is_answer_to (next_act h) answer) → state_of (and_told h answer) ≡ after (state_of h) answer
 
 -- each answer is one to the act that was next when it came
 abbrev pub AreAnswers : History → List Told → Type 0

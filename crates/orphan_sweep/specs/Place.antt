@@ -1,3 +1,4 @@
+-- Where a sweep stands, by the fields that the code keeps, and what an answer does to its state. The invariant is `Fits`.
 use Rattle.std.specs.Prelude.{◌≡◌, ◌==◌, ℕ, ◌+◌, ◌-◌, ◌<◌, ◌≤◌, min, nat_lt, Bool, true, false, if◌then◌else◌, List, [], ◌∷◌, ◌++◌, length, take, drop, map, slice_index}
 use Rattle.orphan_sweep.specs.declared.act.Scan.{Scan}
 use Rattle.orphan_sweep.specs.declared.act.SweepAct.{SweepAct}

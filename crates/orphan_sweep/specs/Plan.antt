@@ -1,3 +1,4 @@
+-- The acts of a sweep in their order, and which answers an act takes (PostgreSQL manual, vacuumlo).
 use Rattle.std.specs.Prelude.{ℕ, Bool, true, false, if◌then◌else◌, List, [], ◌∷◌, ◌++◌, map}
 use Rattle.std.specs.List.{flat_map}
 use Rattle.orphan_sweep.specs.declared.act.Scan.{Scan}

@@ -1,3 +1,4 @@
+-- What is left of a list once numbers are taken off it, and how it is cut into groups.
 use Rattle.std.specs.Prelude.{ℕ, zero, suc, ◌==◌, not, if◌then◌else◌, List, [], ◌∷◌, length, take, drop, filter}
 use Rattle.std.specs.List.{list_any}
 

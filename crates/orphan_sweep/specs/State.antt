@@ -1,3 +1,4 @@
+-- What a sweep is seen as.
 use Rattle.std.specs.Prelude.{ℕ, Bool, List, length, drop}
 use Rattle.orphan_sweep.specs.declared.act.Scan.{Scan}
 use Rattle.orphan_sweep.specs.declared.act.SweepAct.{SweepAct}

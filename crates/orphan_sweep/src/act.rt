@@ -1,12 +1,16 @@
+//! What a sweep asks for and what it is told.
 use lo_base::{ListOf, Name, Oid, Oids};
 
 /// A column whose values are numbers of large objects, in use as long as a row has them.
 #[derive(Debug, Drop)]
 pub struct Scan {
+    /// The table's name.
     pub table: Name,
+    /// The column's name.
     pub column: Name,
 }
 
+/// The columns to scan, in the order in which they are scanned.
 pub type Scans = ListOf<Scan>;
 
 /// What a sweep does next.

@@ -1,14 +1,17 @@
+//! Laws of the definitions, for whoever judges them and for the crates above. No code runs.
 ghost use Rattle.std.specs.Prelude.{ℕ, Bool, List};
 ghost use Rattle.orphan_sweep.specs.declared.act.Scan.{Scan};
 ghost use Rattle.orphan_sweep.specs.declared.act.Told.{Told};
 ghost use Rattle.orphan_sweep.specs.Rest.{less, groups};
-ghost use Rattle.orphan_sweep.specs.Law.{KeepsAnswers, AsksByPlan, RemovesTheRest, StopsAtARefusal, OnlyScans, IsIdleAfterReport, IsTheRest, AreGroups};
 ghost use Rattle.orphan_sweep.specs.History.{History};
 ghost use Rattle.orphan_sweep.specs.Ending.{LeavesFewer};
+ghost use Rattle.orphan_sweep.specs.Law.{KeepsState, KeepsAnswers, AsksByPlan, RemovesTheRest, StopsAtARefusal, OnlyScans, IsIdleAfterReport, IsTheRest, AreGroups};
 
 /// What a sweep asks for and removes, whatever is answered: a law of `next`, `told` and `removed`, by whose words the
 /// clauses speak. No code runs.
 pub fn sweeps_by_answers()
+    ensures state { (h : History) (answer : Told) →
+        KeepsState h answer }
     ensures history { (dry : Bool) (limit : ℕ) (list : List ℕ) (scans : List Scan) (answers : List Told) →
         KeepsAnswers dry limit list scans answers }
     ensures plan { (dry : Bool) (limit : ℕ) (list : List ℕ) (scans : List Scan) (answers : List Told) →

@@ -1,3 +1,4 @@
+//! The sweep's state and its steps. Its invariant and what contracts see of it stand in `specs/Inside.antt`.
 ghost use Rattle.std.specs.Prelude.{◌≡◌, ℕ, IsTrue, [], reverse, drop};
 ghost use Rattle.std.specs.List.Sorted.{IsStrictlyIncreasing};
 ghost use Rattle.orphan_sweep.specs.Rest.{less};

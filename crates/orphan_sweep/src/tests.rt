@@ -1,3 +1,4 @@
+//! Whole runs, act by act, worked out by hand.
 ghost use Rattle.std.specs.Prelude.{◌≡◌, IsTrue, IfOk, IfSome};
 ghost use Rattle.std.specs.List.Sorted.{IsStrictlyIncreasing};
 ghost use Rattle.orphan_sweep.specs.Plan.{is_answer_to};

@@ -1,7 +1,7 @@
 -- The lengths and the tags of cells.
-use Rattle.std.proofs.Common.{◌≡◌, ℕ, suc, ◌≤◌, ◌^◌, List, [], ◌∷◌, length, map, Option, Some, None, refl, sym, ap, subst, ◌∙◌, arith}
+use Rattle.std.proofs.Common.{◌≡◌, ℕ, suc, ◌≤◌, List, [], ◌∷◌, length, map, Some, None, refl, sym, ap, ap₂, subst, ◌∙◌, arith}
 use Rattle.lo_base.specs.declared.value.Cell.{Cell}
-use Rattle.std.proofs.Common.{Bool, ◌++◌, take, drop, length-append, length-drop}
+use Rattle.std.proofs.Common.{◌++◌, take, drop, length-append, length-drop}
 use Rattle.std.proofs.lemmas.List.{length-map, take_at}
 use Rattle.std.proofs.lemmas.Option.{same_Some}
 use Rattle.lo_base.specs.declared.column.Column.{Column}
@@ -16,6 +16,11 @@ use Rattle.toast_plan.proofs.ReadingLaws.{TakesAll, cells_again}
 
 -- ---- the cells of fields
 
+-- what is read off each cell is read off its field
+all_shown : {B : Type 0} (of_cell : Cell → B) (of_field : Field → B) → ((f : Field) → of_cell (cell_of f) ≡ of_field f) → (fs : List Field) → map of_cell (map cell_of fs) ≡ map of_field fs
+all_shown of_cell of_field each [] = refl
+all_shown of_cell of_field each (f ∷ fs) = ap₂ (λ x xs. x ∷ xs) (each f) (all_shown of_cell of_field each fs)
+
 length_shown : (f : Field) → cell_length (cell_of f) ≡ field_length f
 length_shown Null = refl
 length_shown (Int z) = refl
@@ -24,8 +29,7 @@ length_shown (Inline bytes) = refl
 length_shown (Outside p) = refl
 
 lengths_shown : (fs : List Field) → cell_lengths (map cell_of fs) ≡ field_lengths fs
-lengths_shown [] = refl
-lengths_shown (f ∷ fs) = ap (λ (n : Option ℕ). n ∷ cell_lengths (map cell_of fs)) (length_shown f) ∙ ap (λ (ns : List (Option ℕ)). field_length f ∷ ns) (lengths_shown fs)
+lengths_shown fs = all_shown cell_length field_length length_shown fs
 
 mark_shown : (f : Field) → is_cell_outside (cell_of f) ≡ is_outside f
 mark_shown Null = refl
@@ -35,8 +39,7 @@ mark_shown (Inline bytes) = refl
 mark_shown (Outside p) = refl
 
 marks_shown : (fs : List Field) → map is_cell_outside (map cell_of fs) ≡ map is_outside fs
-marks_shown [] = refl
-marks_shown (f ∷ fs) = ap (λ (b : Bool). b ∷ map is_cell_outside (map cell_of fs)) (mark_shown f) ∙ ap (λ (bs : List Bool). is_outside f ∷ bs) (marks_shown fs)
+marks_shown fs = all_shown is_cell_outside is_outside mark_shown fs
 
 null_shown : (f : Field) → is_cell_null (cell_of f) ≡ is_null f
 null_shown Null = refl

@@ -3,12 +3,13 @@ use Rattle.std.proofs.Common.{◌≡◌, ◌≢◌, ℕ, zero, suc, ◌+◌, ◌
 use Rattle.std.specs.Prelude.{count_by, slice_get}
 use Rattle.std.specs.Option.{option_map_or}
 use Rattle.std.proofs.Math.ListN.{set}
+use Rattle.std.proofs.Math.Bool.{or-false}
 use Rattle.std.proofs.lemmas.Bool.{and_left, and_right, and_parts, and_from, cases_Bool}
 use Rattle.lo_base.specs.declared.column.Column.{Column}
 use Rattle.lo_base.specs.declared.column.Storage.{Storage}
 use Rattle.toast_plan.specs.Layout.{value_header}
 use Rattle.toast_plan.specs.Choice.{Candidate, candidate_at, candidates_from, goes_before, place_in_order, with_moved_from, least}
-use Rattle.toast_plan.proofs.RoundLaws.{waiting, IsIn, head_or_rest, rest_is_in, head_is_in, candidate_place, place_from, moves_same, same_or, same_head, count_cons, irreflexive, before-before}
+use Rattle.toast_plan.proofs.RoundLaws.{waiting, IsIn, head_or_rest, rest_is_in, head_is_in, candidate_place, place_from, one_apart, count_cons, irreflexive, before-before}
 
 -- a value that is a candidate of the round
 pub record Waits (moves : Storage → Bool) (cs : List Column) (ns : List (Option ℕ)) (os : List Bool) (j bytes : ℕ) : Type 0 where
@@ -80,11 +81,13 @@ in_waits moves k (suc j) (c ∷ cs) (n ∷ ns) (o ∷ os) a here at =
           record { column = w.column; at = w.at; storage = w.storage; length = w.length; inside = w.inside; big = w.big }
     ]
 
-pub waits_in : (moves : Storage → Bool) (k j : ℕ) (cs : List Column) (ns : List (Option ℕ)) (os : List Bool) (a : Candidate) → Waits moves cs ns os j a.bytes → a.place ≡ k + j → IsIn (candidates_from moves k cs ns os) a
-waits_in moves k j [] ns os a w at = absurd (let e : None ≡ Some w.column = w.at in cc)
-waits_in moves k j (c ∷ cs) [] os a w at = absurd (let e : None ≡ Some (Some a.bytes) = w.length in cc)
-waits_in moves k j (c ∷ cs) (n ∷ ns) [] a w at = absurd (let e : None ≡ Some false = w.inside in cc)
-waits_in moves k zero (c ∷ cs) (n ∷ ns) (o ∷ os) a w at =
+-- the first value, where it waits
+pub record HeadWaits (moves : Storage → Bool) (k : ℕ) (c : Column) (n : Option ℕ) (o : Bool) (a : Candidate) : Type 0 where
+  pub head : candidate_at moves k c n o ≡ Some a
+  pub inside : o ≡ false
+
+head_waits : (moves : Storage → Bool) (k : ℕ) (c : Column) (cs : List Column) (n : Option ℕ) (ns : List (Option ℕ)) (o : Bool) (os : List Bool) (a : Candidate) → Waits moves (c ∷ cs) (n ∷ ns) (o ∷ os) zero a.bytes → a.place ≡ k + zero → HeadWaits moves k c n o a
+head_waits moves k c cs n ns o os a w at =
     let column : Some c ≡ Some w.column = w.at in
     let same : w.column ≡ c = cc in
     let length : Some n ≡ Some (Some a.bytes) = w.length in
@@ -95,8 +98,17 @@ waits_in moves k zero (c ∷ cs) (n ∷ ns) (o ∷ os) a w at =
     let big : ltb 24 (a.bytes + value_header c.storage a.bytes) ≡ true = rw (← same) w.big in
     let place : a.place ≡ k = omega arith in
     let made : waiting k a.bytes ≡ a = ap (λ (p : ℕ). waiting p a.bytes) (sym place) in
-    head_is_in (candidate_at moves k c n o) (candidates_from moves (k + 1) cs ns os) a
-    (ap (λ (x : Option ℕ). candidate_at moves k c x o) bytes ∙ is_candidate moves k c a.bytes o storage big o-is ∙ ap (λ (x : Candidate). Some x) made)
+    record {
+      head = ap (λ (x : Option ℕ). candidate_at moves k c x o) bytes ∙ is_candidate moves k c a.bytes o storage big o-is ∙ ap (λ (x : Candidate). Some x) made;
+      inside = o-is;
+    }
+
+pub waits_in : (moves : Storage → Bool) (k j : ℕ) (cs : List Column) (ns : List (Option ℕ)) (os : List Bool) (a : Candidate) → Waits moves cs ns os j a.bytes → a.place ≡ k + j → IsIn (candidates_from moves k cs ns os) a
+waits_in moves k j [] ns os a w at = absurd (let e : None ≡ Some w.column = w.at in cc)
+waits_in moves k j (c ∷ cs) [] os a w at = absurd (let e : None ≡ Some (Some a.bytes) = w.length in cc)
+waits_in moves k j (c ∷ cs) (n ∷ ns) [] a w at = absurd (let e : None ≡ Some false = w.inside in cc)
+waits_in moves k zero (c ∷ cs) (n ∷ ns) (o ∷ os) a w at =
+    head_is_in (candidate_at moves k c n o) (candidates_from moves (k + 1) cs ns os) a (head_waits moves k c cs n ns o os a w at).head
 waits_in moves k (suc j) (c ∷ cs) (n ∷ ns) (o ∷ os) a w at =
     rest_is_in (candidate_at moves k c n o) (candidates_from moves (k + 1) cs ns os) a
     (waits_in moves (k + 1) j cs ns os a (record { column = w.column; at = w.at; storage = w.storage; length = w.length; inside = w.inside; big = w.big }) (omega arith))
@@ -107,24 +119,10 @@ waits_moved p moves k j [] ns os a w at = absurd (let e : None ≡ Some w.column
 waits_moved p moves k j (c ∷ cs) [] os a w at = absurd (let e : None ≡ Some (Some a.bytes) = w.length in cc)
 waits_moved p moves k j (c ∷ cs) (n ∷ ns) [] a w at = absurd (let e : None ≡ Some false = w.inside in cc)
 waits_moved p moves k zero (c ∷ cs) (n ∷ ns) (o ∷ os) a w at =
-    let column : Some c ≡ Some w.column = w.at in
-    let same : w.column ≡ c = cc in
-    let length : Some n ≡ Some (Some a.bytes) = w.length in
-    let bytes : n ≡ Some a.bytes = cc in
-    let inside : Some o ≡ Some false = w.inside in
-    let o-is : o ≡ false = cc in
-    let storage : moves c.storage ≡ true = rw (← same) w.storage in
-    let big : ltb 24 (a.bytes + value_header c.storage a.bytes) ≡ true = rw (← same) w.big in
-    let place : a.place ≡ k = omega arith in
-    let made : waiting k a.bytes ≡ a = ap (λ (p : ℕ). waiting p a.bytes) (sym place) in
-    let head : candidate_at moves k c n o ≡ Some a = ap (λ (x : Option ℕ). candidate_at moves k c x o) bytes ∙ is_candidate moves k c a.bytes o storage big o-is ∙ ap (λ (x : Candidate). Some x) made in
-    ap (λ (h : Option Candidate). Some (o || option_map_or p h false)) head ∙ ap (λ (b : Bool). Some (b || p a)) o-is
+    let h = head_waits moves k c cs n ns o os a w at in
+    ap (λ (x : Option Candidate). Some (o || option_map_or p x false)) h.head ∙ ap (λ (b : Bool). Some (b || p a)) h.inside
 waits_moved p moves k (suc j) (c ∷ cs) (n ∷ ns) (o ∷ os) a w at =
     waits_moved p moves (k + 1) j cs ns os a (record { column = w.column; at = w.at; storage = w.storage; length = w.length; inside = w.inside; big = w.big }) (omega arith)
-
-or_nothing : (o : Bool) → (o || false) ≡ o
-or_nothing true = refl
-or_nothing false = refl
 
 -- a value of another round stays where it was
 pub other_stays : (p : Candidate → Bool) (moves : Storage → Bool) (k j : ℕ) (cs : List Column) (ns : List (Option ℕ)) (os : List Bool) (c : Column) → slice_get cs j ≡ Some c → moves c.storage ≡ false → slice_get (with_moved_from p moves k cs ns os) j ≡ slice_get os j
@@ -135,7 +133,7 @@ other_stays p moves k zero (c ∷ cs) (n ∷ ns) (o ∷ os) d at other =
     let column : Some c ≡ Some d = at in
     let same : d ≡ c = cc in
     let none : candidate_at moves k c n o ≡ None = is_no_candidate moves k c n o (rw (← same) other) in
-    ap (λ (h : Option Candidate). Some (o || option_map_or p h false)) none ∙ ap (λ (b : Bool). Some b) (or_nothing o)
+    ap (λ (h : Option Candidate). Some (o || option_map_or p h false)) none ∙ ap (λ (b : Bool). Some b) (or-false o)
 other_stays p moves k (suc j) (c ∷ cs) (n ∷ ns) (o ∷ os) d at other = other_stays p moves (k + 1) j cs ns os d at other
 
 -- so does a null
@@ -146,7 +144,7 @@ null_stays p moves k j (c ∷ cs) (n ∷ ns) [] at = refl
 null_stays p moves k zero (c ∷ cs) (n ∷ ns) (o ∷ os) at =
     let null : Some n ≡ Some None = at in
     let same : n ≡ None = cc in
-    ap (λ (x : Option ℕ). Some (o || option_map_or p (candidate_at moves k c x o) false)) same ∙ ap (λ (b : Bool). Some b) (or_nothing o)
+    ap (λ (x : Option ℕ). Some (o || option_map_or p (candidate_at moves k c x o) false)) same ∙ ap (λ (b : Bool). Some b) (or-false o)
 null_stays p moves k (suc j) (c ∷ cs) (n ∷ ns) (o ∷ os) at = null_stays p moves (k + 1) j cs ns os at
 
 small_head : (moves : Storage → Bool) (k : ℕ) (c : Column) (n : Option ℕ) (o : Bool) (m : ℕ) → n ≡ Some m → ltb 24 (m + value_header c.storage m) ≡ false → candidate_at moves k c n o ≡ None
@@ -168,44 +166,14 @@ small_stays p moves k zero (c ∷ cs) (n ∷ ns) (o ∷ os) d m at length small 
     let value : Some n ≡ Some (Some m) = length in
     let n-is : n ≡ Some m = cc in
     let none : candidate_at moves k c n o ≡ None = small_head moves k c n o m n-is (rw (← same) small) in
-    ap (λ (h : Option Candidate). Some (o || option_map_or p h false)) none ∙ ap (λ (b : Bool). Some b) (or_nothing o)
+    ap (λ (h : Option Candidate). Some (o || option_map_or p h false)) none ∙ ap (λ (b : Bool). Some b) (or-false o)
 small_stays p moves k (suc j) (c ∷ cs) (n ∷ ns) (o ∷ os) d m at length small = small_stays p moves (k + 1) j cs ns os d m at length small
-
-false_or : (o p : Bool) → o ≡ false → p ≡ false → (o || p) ≡ false
-false_or true p e f = absurd cc
-false_or false p e f = f
-
-fails_head : (q : Candidate → Bool) (h : Option Candidate) (a : Candidate) → h ≡ Some a → q a ≡ false → option_map_or q h false ≡ false
-fails_head q None a e fails = refl
-fails_head q (Some b) a e fails = let same : b ≡ a = cc in rw same fails
 
 -- one candidate left inside, and the others by a test that agrees on them
 pub leaves_one : (p q : Candidate → Bool) (moves : Storage → Bool) (k i : ℕ) (cs : List Column) (ns : List (Option ℕ)) (os : List Bool) (a : Candidate) → IsIn (candidates_from moves k cs ns os) a → a.place ≡ k + i → p a ≡ false
     → ((b : Candidate) → IsIn (candidates_from moves k cs ns os) b → b.place ≢ a.place → p b ≡ q b) → with_moved_from p moves k cs ns os ≡ set (with_moved_from q moves k cs ns os) i false
-leaves_one p q moves k i [] ns os a here at fails same = absurd here
-leaves_one p q moves k i (c ∷ cs) [] os a here at fails same = absurd here
-leaves_one p q moves k i (c ∷ cs) (n ∷ ns) [] a here at fails same = absurd here
-leaves_one p q moves k zero (c ∷ cs) (n ∷ ns) (o ∷ os) a here at fails same =
-    let h = candidate_at moves k c n o in
-    let rest = candidates_from moves (k + 1) cs ns os in
-    elim (head_or_rest h rest a here) [
-      | inl head ↦
-          let such = candidate_is moves k c n o a head in
-          let first : (o || option_map_or p h false) ≡ false = false_or o (option_map_or p h false) such.inside (fails_head p h a head fails) in
-          let others : with_moved_from p moves (k + 1) cs ns os ≡ with_moved_from q moves (k + 1) cs ns os = moves_same p q moves (k + 1) cs ns os (λ b later. same b (rest_is_in h rest b later) (λ e. omega (arith, e, place_from moves (k + 1) cs ns os b later))) in
-          ap (λ (b : Bool). b ∷ with_moved_from p moves (k + 1) cs ns os) first ∙ ap (λ (bs : List Bool). false ∷ bs) others
-      | inr later ↦ absurd (omega (arith, place_from moves (k + 1) cs ns os a later))
-    ]
-leaves_one p q moves k (suc i) (c ∷ cs) (n ∷ ns) (o ∷ os) a here at fails same =
-    let h = candidate_at moves k c n o in
-    let rest = candidates_from moves (k + 1) cs ns os in
-    elim (head_or_rest h rest a here) [
-      | inl head ↦ absurd (omega (arith, candidate_place moves k c n o a head))
-      | inr later ↦
-          same_or o (option_map_or p h false) (option_map_or q h false) (with_moved_from p moves (k + 1) cs ns os) (set (with_moved_from q moves (k + 1) cs ns os) i false)
-          (same_head p q h (λ b e. same b (head_is_in h rest b e) (λ f. omega (arith, f, candidate_place moves k c n o b e))))
-          (leaves_one p q moves (k + 1) i cs ns os a later (omega arith) fails (λ b here. same b (rest_is_in h rest b here)))
-    ]
+leaves_one p q moves k i cs ns os a here at fails same =
+    one_apart p q moves k i cs ns os a here at same ∙ ap (set (with_moved_from q moves k cs ns os) i) fails
 
 -- ---- places in the order
 

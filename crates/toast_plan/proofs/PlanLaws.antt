@@ -3,6 +3,8 @@ use Rattle.std.proofs.Common.{◌≡◌, ◌≢◌, ℕ, zero, suc, ◌+◌, ◌
 use Rattle.std.specs.Prelude.{count_by, slice_get}
 use Rattle.std.specs.Option.{option_map_or}
 use Rattle.std.proofs.Math.ListN.{set}
+use Rattle.std.proofs.lemmas.List.{length-replicate}
+use Rattle.std.proofs.lemmas.List.Sums.{count_by-le-length}
 use Rattle.std.proofs.lemmas.Bool.{ltb-true, ltb-false, lt-ltb, le-ltb, cases_Bool, cases_lt, leb-true, leb-false}
 use Rattle.lo_base.specs.declared.column.Column.{Column}
 use Rattle.lo_base.specs.declared.column.Storage.{Storage}
@@ -119,15 +121,11 @@ one_at_most : (b : Bool) → cond {A = ℕ} b 1 0 ≤ 1
 one_at_most true = omega arith
 one_at_most false = omega arith
 
-count_bound : (p : Candidate → Bool) (all : List Candidate) → count_by p all ≤ length all
-count_bound p [] = omega arith
-count_bound p (b ∷ all) = omega (arith, count_cons p b all, count_bound p all, one_at_most (p b))
-
 place_bound : (p : Candidate → Bool) (all : List Candidate) (a : Candidate) → IsIn all a → p a ≡ false → count_by p all < length all
 place_bound p [] a here fails = absurd here
 place_bound p (b ∷ all) a here fails =
     elim here [
-      | inl same ↦ let head : cond {A = ℕ} (p b) 1 0 ≡ 0 = rw (same, fails) refl in omega (arith, head, count_cons p b all, count_bound p all)
+      | inl same ↦ let head : cond {A = ℕ} (p b) 1 0 ≡ 0 = rw (same, fails) refl in omega (arith, head, count_cons p b all, count_by-le-length p all)
       | inr later ↦ omega (arith, count_cons p b all, place_bound p all a later fails, one_at_most (p b))
     ]
 
@@ -274,13 +272,9 @@ length_moved p moves k (c ∷ cs) [] os = refl
 length_moved p moves k (c ∷ cs) (n ∷ ns) [] = refl
 length_moved p moves k (c ∷ cs) (n ∷ ns) (o ∷ os) = ap suc (length_moved p moves (k + 1) cs ns os)
 
-length-replicate : (cs : List Column) → length (replicate (length cs) false) ≡ length cs
-length-replicate [] = refl
-length-replicate (c ∷ cs) = ap suc (length-replicate cs)
-
 length_first : (cs : List Column) (ns : List (Option ℕ)) → length (outside_first cs ns) ≡ length cs
 length_first cs ns =
-    length_moved (is_among_first (moves_needed moves_first (first_target ns) cs ns (start cs)) (candidates moves_first cs ns (start cs))) moves_first 0 cs ns (start cs) ∙ length-replicate cs
+    length_moved (is_among_first (moves_needed moves_first (first_target ns) cs ns (start cs)) (candidates moves_first cs ns (start cs))) moves_first 0 cs ns (start cs) ∙ length-replicate (length cs) false
 
 -- one mark for each column
 pub length_outside : (cs : List Column) (ns : List (Option ℕ)) → length (outside_of cs ns) ≡ length cs

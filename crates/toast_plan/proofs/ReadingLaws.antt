@@ -8,6 +8,7 @@ use Rattle.std.specs.Int.RustNames.{FitsSigned}
 use Rattle.std.proofs.Math.Facts.{sfits_to_z, Fits-of_z}
 use Rattle.std.proofs.lemmas.Int.{to_z-of_z, of_z-to_z}
 use Rattle.std.proofs.lemmas.Bool.{cases_lt, cases_Bool, ltb-false, le-ltb, leb-true, le-leb, ne_eqb, and_parts, and_from, or_parts, or_from}
+use Rattle.std.proofs.lemmas.Option.{same_Some}
 use Rattle.std.proofs.lemmas.Slice.Eq.{bytes_eq-Decides}
 use Rattle.std.proofs.lemmas.List.{take_at, drop_at, take-append-drop, length-append, length-take, get_or-drop, get_or-take, get_or_past}
 use Rattle.std.proofs.lemmas.Nat.{le_bytes_4, le_bytes_8, from_le_bytes-to_le_bytes_4, from_le_bytes-to_le_bytes_8}
@@ -85,9 +86,6 @@ outside_some bytes p is e =
 abbrev done : {A : Type 0} → A → Option A
 done x = Some x
 
-done_is : {A : Type 0} (x y : A) → done x ≡ done y → x ≡ y
-done_is x y e = cc
-
 pub record Bound (A B : Type 0) (o : Option A) (f : A → Option B) (y : B) : Type 0 where
   pub first : A
   pub found : o ≡ Some first
@@ -133,7 +131,7 @@ number_takes w limit wide bytes x fits e =
       | inr long ↦
           let k = byte_len w in
           let some : done (from_le_bytes w (take k bytes), drop k bytes) ≡ done x = rw long at e in
-          let same : (from_le_bytes w (take k bytes), drop k bytes) ≡ x = done_is (from_le_bytes w (take k bytes), drop k bytes) x some in
+          let same : (from_le_bytes w (take k bytes), drop k bytes) ≡ x = same_Some (from_le_bytes w (take k bytes), drop k bytes) x some in
           let le : k ≤ length bytes = ltb-false (length bytes) k long in
           let front : to_le_bytes w (from_le_bytes w (take k bytes)) ≡ take k bytes = wide.back (take k bytes) (omega (arith, length-take k bytes)) (IsBytes-take k bytes fits) in
           subst (λ (y : ℕ × List ℕ). IsNumber w limit bytes y.0 y.1) same (record {
@@ -166,7 +164,7 @@ int_takes bytes x fits e =
     let t = number_takes w64 (2 ^ 64) wide64 bytes b.first fits b.found in
     let below : n < 2 ^ 64 = t.below in
     let range : Fits w64 n = omega (arith, below) in
-    let same : (cells.Int (cast_signed w64 n), rest) ≡ x = done_is (cells.Int (cast_signed w64 n), rest) x b.then in
+    let same : (cells.Int (cast_signed w64 n), rest) ≡ x = same_Some (cells.Int (cast_signed w64 n), rest) x b.then in
     subst (λ (y : Cell × List ℕ). Takes types.Int8 (1 ∷ bytes) y.0 y.1) same (record {
       field = Int (cast_signed w64 n);
       is = sfits_to_z range;
@@ -179,7 +177,7 @@ oid_takes : (kind : ColType) (bytes : List ℕ) (x : Cell × List ℕ) → ((n :
 oid_takes kind bytes x is fits e =
     let b = bound (number_front w32 bytes) (λ n. Some (cells.Oid n.0, n.1)) x e in
     let t = number_takes w32 (2 ^ 32) wide32 bytes b.first fits b.found in
-    let same : (cells.Oid b.first.0, b.first.1) ≡ x = done_is (cells.Oid b.first.0, b.first.1) x b.then in
+    let same : (cells.Oid b.first.0, b.first.1) ≡ x = same_Some (cells.Oid b.first.0, b.first.1) x b.then in
     subst (λ (y : Cell × List ℕ). Takes kind (1 ∷ bytes) y.0 y.1) same (record {
       field = Oid b.first.0;
       is = is b.first.0 t.below;
@@ -203,7 +201,7 @@ piece_takes n bytes x e =
           record {
             few = ltb-false 16777216 n both.0;
             within = ltb-false (length bytes) n both.1;
-            same = done_is (cells.Inline (take n bytes), drop n bytes) x some;
+            same = same_Some (cells.Inline (take n bytes), drop n bytes) x some;
           }
     ]
 
@@ -234,7 +232,7 @@ outside_takes kind bytes x is fits e =
       | inl holds ↦
           let s = tested front (IsBytes-take 18 bytes fits) holds in
           let some : done (cells.Outside p.length p.value, drop 18 bytes) ≡ done x = sym (ap (λ (b : Bool). chosen b p (drop 18 bytes)) holds) ∙ e in
-          let same : (cells.Outside p.length p.value, drop 18 bytes) ≡ x = done_is (cells.Outside p.length p.value, drop 18 bytes) x some in
+          let same : (cells.Outside p.length p.value, drop 18 bytes) ≡ x = same_Some (cells.Outside p.length p.value, drop 18 bytes) x some in
           subst (λ (y : Cell × List ℕ). Takes kind (2 ∷ bytes) y.0 y.1) same (record {
             field = Outside p;
             is = is p s.valid;
@@ -264,7 +262,7 @@ no_tag kind tag bytes le = rw (ne_eqb tag 0 (λ e. omega (arith, e)), ne_eqb tag
 cell_takes : (kind : ColType) (bytes : List ℕ) (x : Cell × List ℕ) → IsBytes bytes → cell_front kind bytes ≡ Some x → Takes kind bytes x.0 x.1
 cell_takes kind [] x fits e = absurd cc
 cell_takes kind (zero ∷ bytes) x fits e =
-    subst (λ (y : Cell × List ℕ). Takes kind (0 ∷ bytes) y.0 y.1) (done_is (cells.Null, bytes) x e) (record { field = Null; is = tt; form = refl; shown = refl; rest_fits = IsBytes-rest 0 bytes fits })
+    subst (λ (y : Cell × List ℕ). Takes kind (0 ∷ bytes) y.0 y.1) (same_Some (cells.Null, bytes) x e) (record { field = Null; is = tt; form = refl; shown = refl; rest_fits = IsBytes-rest 0 bytes fits })
 cell_takes kind (suc zero ∷ bytes) x fits e = value_takes kind bytes x (IsBytes-rest 1 bytes fits) e
 cell_takes kind (suc (suc zero) ∷ bytes) x fits e = moved_takes kind bytes x (IsBytes-rest 2 bytes fits) e
 cell_takes kind (suc (suc (suc tag)) ∷ bytes) x fits e = absurd (let none : None ≡ Some x = sym (no_tag kind (suc (suc (suc tag))) bytes (omega arith)) ∙ e in cc)
@@ -324,13 +322,13 @@ pub record TakesAll (cs : List Column) (bytes : List ℕ) (found : List Cell) (r
 
 pub cells_take : (cs : List Column) (bytes : List ℕ) (x : List Cell × List ℕ) → IsBytes bytes → cells_front cs bytes ≡ Some x → TakesAll cs bytes x.0 x.1
 cells_take [] bytes x fits e =
-    subst (λ (y : List Cell × List ℕ). TakesAll [] bytes y.0 y.1) (done_is ([], bytes) x e) (record { fields = []; are = tt; form = refl; shown = refl })
+    subst (λ (y : List Cell × List ℕ). TakesAll [] bytes y.0 y.1) (same_Some ([], bytes) x e) (record { fields = []; are = tt; form = refl; shown = refl })
 cells_take (c ∷ cs) bytes x fits e =
     let a = bound (cell_front c.kind bytes) (λ first. cells_front cs first.1 >>= λ others. Some (first.0 ∷ others.0, others.1)) x e in
     let b = bound (cells_front cs a.first.1) (λ others. Some (a.first.0 ∷ others.0, others.1)) x a.then in
     let t = cell_takes c.kind bytes a.first fits a.found in
     let u = cells_take cs a.first.1 b.first t.rest_fits b.found in
-    let same : (a.first.0 ∷ b.first.0, b.first.1) ≡ x = done_is (a.first.0 ∷ b.first.0, b.first.1) x b.then in
+    let same : (a.first.0 ∷ b.first.0, b.first.1) ≡ x = same_Some (a.first.0 ∷ b.first.0, b.first.1) x b.then in
     subst (λ (y : List Cell × List ℕ). TakesAll (c ∷ cs) bytes y.0 y.1) same (record {
       fields = t.field ∷ u.fields;
       are = (t.is, u.are);

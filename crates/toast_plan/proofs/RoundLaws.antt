@@ -1,9 +1,12 @@
 -- Moving out the candidate that goes first, and choosing anew among the others, is the choice among all.
-use Rattle.std.proofs.Common.{◌≡◌, ◌≢◌, ℕ, zero, suc, ◌+◌, ◌<◌, ◌≤◌, Bool, true, false, not, ◌||◌, ◌&&◌, cond, eqb, ltb, List, [], ◌∷◌, ◌++◌, length, Option, Some, None, ◌⊎◌, inl, inr, refl, sym, ap, ◌∙◌, arith}
+use Rattle.std.proofs.Common.{◌≡◌, ◌≢◌, ℕ, zero, suc, ◌+◌, ◌<◌, ◌≤◌, Bool, true, false, not, ◌||◌, ◌&&◌, cond, eqb, ltb, List, [], ◌∷◌, ◌++◌, length, Option, Some, None, ◌⊎◌, inl, inr, refl, sym, ap, ap₂, ◌∙◌, arith}
 use Rattle.std.specs.Prelude.{option_to_list, count_by}
 use Rattle.std.specs.Option.{option_map_or}
 use Rattle.std.proofs.Math.ListN.{set}
-use Rattle.std.proofs.lemmas.Bool.{ltb-true, ltb-false, eqb-true, eqb-false, lt-ltb, le-ltb, and_right, or_right, or_parts, or_cases, and_parts, and_cases, cases_Bool, cases_lt}
+use Rattle.std.proofs.Math.Bool.{or-false}
+use Rattle.std.proofs.lemmas.List.{set-set}
+use Rattle.std.proofs.lemmas.Option.{same_Some}
+use Rattle.std.proofs.lemmas.Bool.{ltb-true, ltb-false, eqb-true, eqb-false, lt-ltb, le-ltb, and_right, or_parts, or_cases, and_parts, and_cases, cases_Bool, cases_lt}
 use Rattle.std.proofs.lemmas.List.Sums.{sum_by-cons}
 use Rattle.lo_base.specs.declared.column.Column.{Column}
 use Rattle.lo_base.specs.declared.column.Storage.{Storage}
@@ -216,17 +219,13 @@ at_most_none : (p : Candidate → Bool) (h : Option Candidate) → ((a : Candida
 at_most_none p None none = refl
 at_most_none p (Some a) none = none a
 
-or_false : (o : Bool) → (o || false) ≡ o
-or_false true = refl
-or_false false = refl
-
 pub moves_nothing : (p : Candidate → Bool) (moves : Storage → Bool) (k : ℕ) (cs : List Column) (ns : List (Option ℕ)) (os : List Bool) → ((a : Candidate) → p a ≡ false) → with_moved_from p moves k cs ns os ≡ os
 moves_nothing p moves k [] ns os none = refl
 moves_nothing p moves k (c ∷ cs) [] os none = refl
 moves_nothing p moves k (c ∷ cs) (n ∷ ns) [] none = refl
 moves_nothing p moves k (c ∷ cs) (n ∷ ns) (o ∷ os) none =
     let stays : option_map_or p (candidate_at moves k c n o) false ≡ false = at_most_none p (candidate_at moves k c n o) none in
-    same_or o (option_map_or p (candidate_at moves k c n o) false) false (with_moved_from p moves (k + 1) cs ns os) os stays (moves_nothing p moves (k + 1) cs ns os none) ∙ ap (λ (b : Bool). b ∷ os) (or_false o)
+    same_or o (option_map_or p (candidate_at moves k c n o) false) false (with_moved_from p moves (k + 1) cs ns os) os stays (moves_nothing p moves (k + 1) cs ns os none) ∙ ap (λ (b : Bool). b ∷ os) (or-false o)
 
 pub same_head : (p q : Candidate → Bool) (h : Option Candidate) → ((b : Candidate) → h ≡ Some b → p b ≡ q b) → option_map_or p h false ≡ option_map_or q h false
 same_head p q None same = refl
@@ -242,40 +241,60 @@ moves_same p q moves k (c ∷ cs) (n ∷ ns) (o ∷ os) same =
     same_or o (option_map_or p h false) (option_map_or q h false) (with_moved_from p moves (k + 1) cs ns os) (with_moved_from q moves (k + 1) cs ns os)
     (same_head p q h (λ b e. same b (head_is_in h rest b e))) (moves_same p q moves (k + 1) cs ns os (λ b here. same b (rest_is_in h rest b here)))
 
-true_is_or : (o p : Bool) → p ≡ true → true ≡ (o || p)
-true_is_or o p e = sym (or_right o p e)
+candidate_inside : (moves : Storage → Bool) (k : ℕ) (c : Column) (n : Option ℕ) (o : Bool) (a : Candidate) → candidate_at moves k c n o ≡ Some a → o ≡ false
+candidate_inside moves k c n true a e = absurd (let none : None ≡ Some a = sym (outside_is_none moves k c n) ∙ e in cc)
+candidate_inside moves k c n false a e = refl
 
-passes_head : (q : Candidate → Bool) (h : Option Candidate) (a : Candidate) → h ≡ Some a → q a ≡ true → option_map_or q h false ≡ true
-passes_head q None a e passes = absurd cc
-passes_head q (Some b) a e passes = let same : b ≡ a = cc in rw same passes
+passes_head : (p : Candidate → Bool) (h : Option Candidate) (a : Candidate) → h ≡ Some a → option_map_or p h false ≡ p a
+passes_head p None a e = absurd (let none : None ≡ Some a = e in cc)
+passes_head p (Some b) a e = ap p (same_Some b a e)
 
--- a candidate that moved out at once, and the others by a test that agrees on them
-pub moves_others : (p q : Candidate → Bool) (moves : Storage → Bool) (k i : ℕ) (cs : List Column) (ns : List (Option ℕ)) (os : List Bool) (a : Candidate) → IsIn (candidates_from moves k cs ns os) a → a.place ≡ k + i → q a ≡ true
-    → ((b : Candidate) → IsIn (candidates_from moves k cs ns os) b → b.place ≢ a.place → p b ≡ q b) → with_moved_from p moves k cs ns (set os i true) ≡ with_moved_from q moves k cs ns os
-moves_others p q moves k i [] ns os a here at passes same = absurd here
-moves_others p q moves k i (c ∷ cs) [] os a here at passes same = absurd here
-moves_others p q moves k i (c ∷ cs) (n ∷ ns) [] a here at passes same = absurd here
-moves_others p q moves k zero (c ∷ cs) (n ∷ ns) (o ∷ os) a here at passes same =
+-- tests that differ at one candidate alone leave marks that differ there alone
+pub one_apart : (p q : Candidate → Bool) (moves : Storage → Bool) (k i : ℕ) (cs : List Column) (ns : List (Option ℕ)) (os : List Bool) (a : Candidate) → IsIn (candidates_from moves k cs ns os) a → a.place ≡ k + i
+    → ((b : Candidate) → IsIn (candidates_from moves k cs ns os) b → b.place ≢ a.place → p b ≡ q b) → with_moved_from p moves k cs ns os ≡ set (with_moved_from q moves k cs ns os) i (p a)
+one_apart p q moves k i [] ns os a here at same = absurd here
+one_apart p q moves k i (c ∷ cs) [] os a here at same = absurd here
+one_apart p q moves k i (c ∷ cs) (n ∷ ns) [] a here at same = absurd here
+one_apart p q moves k zero (c ∷ cs) (n ∷ ns) (o ∷ os) a here at same =
     let h = candidate_at moves k c n o in
     let rest = candidates_from moves (k + 1) cs ns os in
     elim (head_or_rest h rest a here) [
       | inl head ↦
-          let first : true ≡ (o || option_map_or q h false) = true_is_or o (option_map_or q h false) (passes_head q h a head passes) in
+          let first : (o || option_map_or p h false) ≡ p a = ap₂ (λ x y. x || y) (candidate_inside moves k c n o a head) (passes_head p h a head) in
           let others : with_moved_from p moves (k + 1) cs ns os ≡ with_moved_from q moves (k + 1) cs ns os = moves_same p q moves (k + 1) cs ns os (λ b later. same b (rest_is_in h rest b later) (λ e. omega (arith, e, place_from moves (k + 1) cs ns os b later))) in
-          ap (λ (bs : List Bool). true ∷ bs) others ∙ ap (λ (b : Bool). b ∷ with_moved_from q moves (k + 1) cs ns os) first
+          ap₂ (λ b bs. b ∷ bs) first others
       | inr later ↦ absurd (omega (arith, place_from moves (k + 1) cs ns os a later))
     ]
-moves_others p q moves k (suc i) (c ∷ cs) (n ∷ ns) (o ∷ os) a here at passes same =
+one_apart p q moves k (suc i) (c ∷ cs) (n ∷ ns) (o ∷ os) a here at same =
     let h = candidate_at moves k c n o in
     let rest = candidates_from moves (k + 1) cs ns os in
     elim (head_or_rest h rest a here) [
       | inl head ↦ absurd (omega (arith, candidate_place moves k c n o a head))
       | inr later ↦
           let next : a.place ≡ (k + 1) + i = omega arith in
-          same_or o (option_map_or p h false) (option_map_or q h false) (with_moved_from p moves (k + 1) cs ns (set os i true)) (with_moved_from q moves (k + 1) cs ns os)
+          same_or o (option_map_or p h false) (option_map_or q h false) (with_moved_from p moves (k + 1) cs ns os) (set (with_moved_from q moves (k + 1) cs ns os) i (p a))
           (same_head p q h (λ b e. same b (head_is_in h rest b e) (λ f. omega (arith, f, candidate_place moves k c n o b e))))
-          (moves_others p q moves (k + 1) i cs ns os a later next passes (λ b here. same b (rest_is_in h rest b here)))
+          (one_apart p q moves (k + 1) i cs ns os a later next (λ b there. same b (rest_is_in h rest b there)))
     ]
+
+-- a candidate outside beforehand is one that passes the test
+moved_before : (p : Candidate → Bool) (moves : Storage → Bool) (k i : ℕ) (cs : List Column) (ns : List (Option ℕ)) (os : List Bool) → with_moved_from p moves k cs ns (set os i true) ≡ set (with_moved_from p moves k cs ns os) i true
+moved_before p moves k i [] ns os = refl
+moved_before p moves k i (c ∷ cs) [] os = refl
+moved_before p moves k i (c ∷ cs) (n ∷ ns) [] = refl
+moved_before p moves k zero (c ∷ cs) (n ∷ ns) (o ∷ os) = refl
+moved_before p moves k (suc i) (c ∷ cs) (n ∷ ns) (o ∷ os) = ap (λ bs. (o || option_map_or p (candidate_at moves k c n o) false) ∷ bs) (moved_before p moves (k + 1) i cs ns os)
+
+-- a candidate that moved out at once, and the others by a test that agrees on them
+pub moves_others : (p q : Candidate → Bool) (moves : Storage → Bool) (k i : ℕ) (cs : List Column) (ns : List (Option ℕ)) (os : List Bool) (a : Candidate) → IsIn (candidates_from moves k cs ns os) a → a.place ≡ k + i → q a ≡ true
+    → ((b : Candidate) → IsIn (candidates_from moves k cs ns os) b → b.place ≢ a.place → p b ≡ q b) → with_moved_from p moves k cs ns (set os i true) ≡ with_moved_from q moves k cs ns os
+moves_others p q moves k i cs ns os a here at passes same =
+    let marks = with_moved_from q moves k cs ns os in
+    moved_before p moves k i cs ns os
+    ∙ ap (λ bs. set bs i true) (one_apart p q moves k i cs ns os a here at same)
+    ∙ set-set marks i (p a) true
+    ∙ ap (set marks i) (sym passes)
+    ∙ sym (one_apart q q moves k i cs ns os a here at (λ b there apart. refl))
 
 -- ---- the least number
 

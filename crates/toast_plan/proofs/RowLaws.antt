@@ -2,7 +2,7 @@
 use Rattle.std.proofs.Common.{◌≡◌, ℕ, ℤ, zero, suc, ◌+◌, ◌*◌, ◌/◌, ◌<◌, ◌≤◌, ◌^◌, Bool, true, false, cond, List, [], ◌∷◌, length, map, All, Option, Some, None, refl, sym, ap, subst, ◌∙◌, length-append, arith}
 use Rattle.std.specs.Prelude.{IfSome, slice_get, option_map}
 use Rattle.std.specs.List.{AllByRecursion}
-use Rattle.std.proofs.lemmas.Option.{slice_get-map}
+use Rattle.std.proofs.lemmas.Option.{same_Some, slice_get-map}
 use Rattle.std.proofs.lemmas.List.{length-map}
 use Rattle.std.proofs.lemmas.List.Elements.{All-from_recursion, recursion_from_All}
 use Rattle.lo_base.specs.declared.column.Column.{Column}
@@ -127,9 +127,6 @@ mark_same table number (values.Oid n) o h = sym (h refl)
 mark_same table number (values.Bytes bytes) true h = refl
 mark_same table number (values.Bytes bytes) false h = refl
 
-some_is : (a b : Bool) → Some a ≡ Some b → a ≡ b
-some_is a b e = cc
-
 -- where only bytes are outside, the tags are the marks
 marks_same : (table number : ℕ) (vs : List Value) (os : List Bool) → length os ≡ length vs → ((k : ℕ) (v : Value) → slice_get vs k ≡ Some v → is_bytes v ≡ false → slice_get os k ≡ Some false) → map is_outside (fields_of table number vs os) ≡ os
 marks_same table number [] [] same h = refl
@@ -137,7 +134,7 @@ marks_same table number [] (o ∷ os) same h = absurd (omega arith)
 marks_same table number (v ∷ vs) [] same h = absurd (omega arith)
 marks_same table number (v ∷ vs) (o ∷ os) same h =
     let rest : map is_outside (fields_of table (number + cond o 1 0) vs os) ≡ os = marks_same table (number + cond o 1 0) vs os (omega arith) (λ k w at other. h (suc k) w at other) in
-    ap (λ (b : Bool). b ∷ map is_outside (fields_of table (number + cond o 1 0) vs os)) (mark_same table number v o (λ other. some_is o false (h 0 v refl other))) ∙ ap (λ (bs : List Bool). o ∷ bs) rest
+    ap (λ (b : Bool). b ∷ map is_outside (fields_of table (number + cond o 1 0) vs os)) (mark_same table number v o (λ other. same_Some o false (h 0 v refl other))) ∙ ap (λ (bs : List Bool). o ∷ bs) rest
 
 pub record IsAt (cs : List Column) (k : ℕ) (v : Value) : Type 0 where
   pub column : Column

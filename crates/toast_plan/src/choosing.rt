@@ -1,3 +1,5 @@
+//! The choice of the values that move out: two rounds, each of which moves the longest first and stops as soon as the row is
+//! short enough. The lengths that it counts with are those of `layout.rt`.
 ghost use Rattle.std.specs.Prelude.{◌≡◌, ◌+◌, ◌-◌, ◌^◌, ◌<◌, ◌≤◌, ◌↔◌, length, take, drop, replicate, false, None, IsErr, IfErr, IfOk, IfSome, option_map};
 ghost use Rattle.toast_plan.specs.Columns.{IsTableColumns, AreLengths};
 ghost use Rattle.toast_plan.specs.Layout.{up_to_8, header_length};
@@ -128,8 +130,9 @@ fn mark_outside(header: u32, columns: &[Column], lengths: &[Option<u32>], outsid
     move_out(Round::Second, ROW_LIMIT - header, columns, lengths, outside);
 }
 
-/// Which values of a row are moved out, the lengths of its values in bytes being given, none for a null: 8 for an int8, 4
-/// for an oid or lo, and at most 16,777,216 for a bytea and for the flat bytes of an int4[].
+/// Which values of a row are moved out (PostgreSQL manual, TOAST), the lengths of its values in bytes being given, none for
+/// a null: 8 for an int8, 4 for an oid or lo, and at most 16,777,216 for a bytea and for the flat bytes of an int4[].
+/// `RowTooBig` where the row has more than 8160 bytes, rounded up to a multiple of 8, with all moved that can be.
 pub fn plan(columns: &[Column], lengths: &[Option<u32>]) -> Result<Plan, RowTooBig>
     requires columns { IsTableColumns columns.now }
     requires lengths { AreLengths columns.now lengths.now }

@@ -1,3 +1,4 @@
+//! Which columns a table can have: the test that callers make before all other calls of this crate.
 ghost use Rattle.std.specs.Prelude.{◌≡◌, ◌≢◌, ◌↔◌, ◌≤◌, All, IsTrue, length, map, codes};
 ghost use Rattle.lo_base.specs.Name.{IsName};
 ghost use Rattle.toast_plan.specs.Columns.{StartsWithId, IsPlainIfFixed, AreDistinct, IsTableColumns};

@@ -1,3 +1,5 @@
+//! How long a row is: headers, alignments and limits. The numbers are those of PostgreSQL's manual (TOAST; Database Page
+//! Layout); nothing is chosen here.
 ghost use Rattle.std.specs.Prelude.{◌≡◌, ◌+◌, ◌*◌, ◌^◌, ◌<◌, ◌≤◌, length, IfSome, is_none};
 ghost use Rattle.std.specs.List.{list_any};
 ghost use Rattle.toast_plan.specs.Rounds.{AreShort};

@@ -1,3 +1,4 @@
+//! The pointer that a value leaves in its row where it moves out, as 18 bytes and back.
 ghost use Rattle.std.specs.Prelude.{◌≡◌, ◌≢◌, ◌+◌, ◌≤◌, length, take, drop, Some, IfSome, IfNone};
 ghost use Rattle.std.specs.Int.{w32, from_le_bytes};
 ghost use Rattle.toast_plan.specs.Pointer.{pointer_form, IsPointer};

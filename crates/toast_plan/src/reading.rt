@@ -1,3 +1,5 @@
+//! A row's cells read from its bytes. What is read here is written in `writing.rt`: a change of the form touches both, and
+//! `specs/Row.antt`.
 ghost use Rattle.std.specs.Prelude.{◌≡◌, ◌↔◌, ◌≤◌, ◌<◌, ◌^◌, All, IsTrue, IfOk, IfSome, IfNone, ℕ, List, ◌++◌, length, map, drop, Ok, Some};
 ghost use Rattle.std.specs.Int.{w32, w64, cast_signed};
 ghost use Rattle.toast_plan.specs.Columns.{IsTableColumns, AreLengths};
@@ -17,6 +19,7 @@ use std::alloc::Global;
 pub struct ReadRow {
     /// One cell for each column. Those outside name the values' numbers as they stand.
     pub cells: Cells,
+    /// How many bytes the row has.
     pub taken: u64,
 }
 
@@ -258,7 +261,8 @@ pub fn read_row(
     ensures found { IfOk result (λ o. IfSome o (ReadsRow columns.now bytes.now)) }
     ensures none { IfOk result (λ o. IfNone o (HasNoRow columns.now bytes.now)) }
     // What was written is read back.
-    ensures read_back { (fields : List Field) (rest : List ℕ) → IsRow columns.now fields → bytes.now ≡ row_form fields ++ rest → IfOk result (λ o. o ≡ Some (row_of fields)) }
+    ensures read_back { (fields : List Field) (rest : List ℕ) →
+        IsRow columns.now fields → bytes.now ≡ row_form fields ++ rest → IfOk result (λ o. o ≡ Some (row_of fields)) }
 {
     let (cells, taken) = match read_cells(alloc, columns, bytes) {
         Ok(found) => found,

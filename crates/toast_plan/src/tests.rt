@@ -1,3 +1,4 @@
+//! Worked rows and their edges, typed from the rules, and each public call once.
 ghost use Rattle.std.specs.Prelude.{◌↔◌, IsTrue};
 ghost use Rattle.toast_plan.specs.Row.{FitsType, FitColumns, StartsWithId};
 ghost use Rattle.toast_plan.specs.Columns.{AreLengths, HasLengthIfThere};
@@ -170,26 +171,14 @@ fn rows_written_and_read(rt: HostRuntime) -> Result<(), Fail> {
     let want = [
         1, 2, 0, 0, 0, 0, 0, 0, 0, 2, 1, 18, 0xd1, 7, 0, 0, 0xcd, 7, 0, 0, 1, 0, 0, 0, 1, 0, 0, 0,
     ];
-    check_row(
-        &rt,
-        alloc,
-        &[ID, EXTERNAL],
-        &values,
-        &want,
-    )?;
+    check_row(&rt, alloc, &[ID, EXTERNAL], &values, &want)?;
     let text = Value::Bytes(ListOf::from_slice(alloc, b"ab")?);
     let values = [Value::Int(-2), Value::Null, Value::Oid(17000), text];
     let want = [
         1, 0xfe, 0xff, 0xff, 0xff, 0xff, 0xff, 0xff, 0xff, 0, 1, 0x68, 0x42, 0, 0, 1, 2, 0, 0, 0,
         0x61, 0x62,
     ];
-    check_row(
-        &rt,
-        alloc,
-        &[ID, MAIN, OID, EXTENDED],
-        &values,
-        &want,
-    )
+    check_row(&rt, alloc, &[ID, MAIN, OID, EXTENDED], &values, &want)
 }
 
 #[test]

@@ -1,3 +1,4 @@
+//! A row's bytes, written into room that the caller has. What is written here is read in `reading.rt`.
 ghost use Rattle.std.specs.Prelude.{◌≡◌, ◌+◌, ◌^◌, ◌<◌, ◌≤◌, ◌++◌, ◌∷◌, All, IsTrue, length, take, drop};
 ghost use Rattle.toast_plan.specs.Columns.{IsTableColumns};
 ghost use Rattle.toast_plan.specs.Choice.{outside_of, IsPlanFor};

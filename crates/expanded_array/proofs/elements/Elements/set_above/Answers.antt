@@ -1,4 +1,4 @@
-use Rattle.std.proofs.Common.{◌≡◌, ◌+◌, ◌-◌, ◌++◌, length, max, take, replicate, None, ap, ◌∙◌, arith}
+use Rattle.std.proofs.Common.{◌+◌, ◌-◌, ◌++◌, length, take, replicate, None, ap, ◌∙◌, arith}
 use Rattle.std.specs.Prelude.{set}
 use Rattle.expanded_array.proofs.Growing.{above_is, above_free}
 use Rattle.expanded_array.proofs.elements.Elements.set_above.Goals as goal

@@ -1,6 +1,6 @@
 use Rattle.std.proofs.Common.{◌∙◌, ap}
 use Rattle.orphan_sweep.specs.Place.{is_unlink}
-use Rattle.orphan_sweep.proofs.Steps.{act_of}
+use Rattle.orphan_sweep.proofs.FieldsAfter.{act_of}
 use Rattle.orphan_sweep.proofs.sweep.Sweep.after_granted.Goals as goal
 
 pub start_group-requires : goal.start_group-requires

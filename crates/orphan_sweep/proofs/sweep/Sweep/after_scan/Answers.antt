@@ -1,4 +1,4 @@
-use Rattle.orphan_sweep.proofs.Steps.{found_of, found_fits}
+use Rattle.orphan_sweep.proofs.FieldsAfter.{found_of, found_fits}
 use Rattle.orphan_sweep.proofs.sweep.Sweep.after_scan.Goals as goal
 
 pub invariant_of-self : goal.invariant_of-self

@@ -1,5 +1,5 @@
 use Rattle.std.proofs.Common.{inl, inr, arith}
-use Rattle.orphan_sweep.proofs.Steps.{unlinked_of, room_left}
+use Rattle.orphan_sweep.proofs.FieldsAfter.{unlinked_of, room_left}
 use Rattle.orphan_sweep.proofs.sweep.Sweep.after_unlink.Goals as goal
 use Rattle.orphan_sweep.proofs.sweep.Sweep.after_unlink.Goals.{then-self-eq0, else-self-eq0}
 

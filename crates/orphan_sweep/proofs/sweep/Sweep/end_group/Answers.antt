@@ -1,5 +1,5 @@
 use Rattle.std.proofs.Common.{rules, inl, inr}
-use Rattle.orphan_sweep.proofs.Steps.{committed_of}
+use Rattle.orphan_sweep.proofs.FieldsAfter.{committed_of}
 use Rattle.orphan_sweep.proofs.sweep.Sweep.end_group.Goals as goal
 use Rattle.orphan_sweep.proofs.sweep.Sweep.end_group.Goals.{then-self-len, else-self-len}
 

@@ -1,6 +1,6 @@
 use Rattle.std.proofs.Common.{◌∙◌, ap, reverse}
 use Rattle.orphan_sweep.specs.Place.{opening_act}
-use Rattle.orphan_sweep.proofs.Steps.{begun_stands}
+use Rattle.orphan_sweep.proofs.FieldsAfter.{begun_stands}
 use Rattle.orphan_sweep.proofs.sweep.Sweep.new.Goals as goal
 
 pub returns : goal.returns

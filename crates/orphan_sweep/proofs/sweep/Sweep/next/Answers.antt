@@ -1,6 +1,6 @@
 use Rattle.std.proofs.Common.{sym, ◌∙◌, ap}
 use Rattle.orphan_sweep.specs.State.{next_of}
-use Rattle.orphan_sweep.proofs.Steps.{act_of}
+use Rattle.orphan_sweep.proofs.FieldsAfter.{act_of}
 use Rattle.orphan_sweep.proofs.sweep.Sweep.next.Goals as goal
 
 pub returns-clause-act : goal.returns-clause-act

@@ -1,5 +1,5 @@
 use Rattle.std.proofs.Common.{rules}
-use Rattle.orphan_sweep.proofs.Steps.{begun_of}
+use Rattle.orphan_sweep.proofs.FieldsAfter.{begun_of}
 use Rattle.orphan_sweep.proofs.sweep.Sweep.start_group.Goals as goal
 
 pub returns : goal.returns

@@ -1,7 +1,7 @@
 use Rattle.std.proofs.Common.{◌∙◌, ap, sym}
 use Rattle.orphan_sweep.specs.declared.act.Told.TheVariants.{Found}
 use Rattle.orphan_sweep.specs.Place.{after}
-use Rattle.orphan_sweep.proofs.ToldLaw.{told_from}
+use Rattle.orphan_sweep.proofs.OneMoreAnswer.{told_from}
 use Rattle.orphan_sweep.proofs.sweep.Sweep.told.Goals as goal
 
 pub returns-in-Found : goal.returns-in-Found

@@ -1,12 +1,12 @@
 -- What an answer does to a sweep, by its fields.
-use Rattle.std.proofs.Common.{◌≡◌, ℕ, ◌+◌, ◌-◌, ◌<◌, ◌≤◌, ◌⊎◌, Bool, IsTrue, List, ◌++◌, length, drop, map, reverse, refl, ap, sym, ◌∙◌, subst}
+use Rattle.std.proofs.Common.{◌≡◌, ℕ, ◌+◌, ◌-◌, ◌<◌, ◌≤◌, ◌⊎◌, Bool, IsTrue, List, ◌++◌, length, drop, map, reverse, ap, sym, ◌∙◌, subst}
 use Rattle.std.proofs.lemmas.List.{reverse-reverse}
 use Rattle.std.proofs.lemmas.List.Kept.{IsStrictlyIncreasing-filter}
 use Rattle.std.specs.List.Sorted.{IsStrictlyIncreasing}
 use Rattle.orphan_sweep.specs.declared.act.Scan.{Scan}
 use Rattle.orphan_sweep.specs.declared.act.SweepAct.{SweepAct}
-use Rattle.orphan_sweep.specs.declared.act.SweepAct.TheVariants.{Scan as Scanning, Begin, Unlink, Commit, Rollback, Report, Idle}
-use Rattle.orphan_sweep.specs.declared.act.Told.TheVariants.{Found, Granted, Refused}
+use Rattle.orphan_sweep.specs.declared.act.SweepAct.TheVariants.{Scan as Scanning, Begin, Unlink, Commit, Report}
+use Rattle.orphan_sweep.specs.declared.act.Told.TheVariants.{Found, Granted}
 use Rattle.orphan_sweep.specs.declared.sweep.Sweep.TheInside.{Inside}
 use Rattle.orphan_sweep.specs.Rest.{less}
 use Rattle.orphan_sweep.specs.Plan.{scan_act, removal, is_answer_to}
@@ -16,6 +16,7 @@ use Rattle.orphan_sweep.specs.Place.{stands, Fits, group_size, opening_act, is_u
 use Rattle.orphan_sweep.specs.Inside.{state_at, IsInPlace}
 use Rattle.orphan_sweep.proofs.Places.{act_is_first, begun_after, unlinked_after, committed_after, opening_stands, opening_fits}
 use Rattle.orphan_sweep.proofs.Histories.{less-nil}
+use Rattle.orphan_sweep.proofs.ActKinds.{the_scan, the_unlink}
 
 -- the act that is kept is the next one
 pub act_of : (s : Inside) (v : State) → state_at s ≡ v → IsInPlace s → next_of v ≡ s.act
@@ -36,16 +37,6 @@ pub begun_of : (s : Inside) (v : State) (o room : ℕ) → state_at s ≡ v → 
 begun_of s v o room e i next size =
     rw size (begun_after s.dry s.limit s.unlinked s.room s.removed o s.list.items (reverse s.scans.items) (fits_at s v Begin e i next) ∙ ap (λ w. after w Granted) (named s v Begin e i next))
 
--- an unlink, with its number
-pub the_unlink : (act : SweepAct) → IsTrue (is_unlink act) → (o : ℕ) × (act ≡ Unlink o)
-the_unlink (Scanning table column) h = cc
-the_unlink Begin h = cc
-the_unlink (Unlink o) h = (o, refl)
-the_unlink Commit h = cc
-the_unlink Rollback h = cc
-the_unlink Report h = cc
-the_unlink Idle h = cc
-
 pub unlinked_of : (s : Inside) (v : State) (act : SweepAct) → state_at s ≡ v → IsInPlace s → IsTrue (is_unlink (next_of v)) → (act ≡ Commit) ⊎ ((n : ℕ) × (act ≡ Unlink n)) → stands s.dry s.limit (reverse s.scans.items) act (s.unlinked + 1) (s.room - 1) s.removed s.list.items ≡ after v Granted
 unlinked_of s v act e i h cases =
     let u = the_unlink (next_of v) h in
@@ -58,26 +49,6 @@ room_left s v e i h =
 pub committed_of : (s : Inside) (v : State) (act : SweepAct) → state_at s ≡ v → IsInPlace s → next_of v ≡ Commit → ((act ≡ Begin) × (s.unlinked < length s.list.items)) ⊎ ((act ≡ Report) × (length s.list.items ≤ s.unlinked)) → stands s.dry s.limit (reverse s.scans.items) act s.unlinked s.room s.unlinked s.list.items ≡ after v Granted
 committed_of s v act e i next cases =
     committed_after s.dry s.limit s.unlinked s.room s.removed act s.list.items (reverse s.scans.items) (fits_at s v Commit e i next) cases ∙ ap (λ w. after w Granted) (named s v Commit e i next)
-
--- only a scan finds numbers
-pub the_scan : (act : SweepAct) (found : List ℕ) → IsTrue (is_answer_to act (Found found)) → (table : List ℕ) × (column : List ℕ) × (act ≡ Scanning table column)
-the_scan (Scanning table column) found h = (table, column, refl)
-the_scan Begin found h = cc
-the_scan (Unlink o) found h = cc
-the_scan Commit found h = cc
-the_scan Rollback found h = cc
-the_scan Report found h = cc
-the_scan Idle found h = cc
-
--- only an unlink is refused
-pub the_refused : (act : SweepAct) → IsTrue (is_answer_to act Refused) → (o : ℕ) × (act ≡ Unlink o)
-the_refused (Scanning table column) h = cc
-the_refused Begin h = cc
-the_refused (Unlink o) h = (o, refl)
-the_refused Commit h = cc
-the_refused Rollback h = cc
-the_refused Report h = cc
-the_refused Idle h = cc
 
 pub found_of : (s : Inside) (v : State) (found list : List ℕ) (act : SweepAct) (scans : List Scan) → state_at s ≡ v → IsInPlace s → IsTrue (is_answer_to (next_of v) (Found found)) → list ≡ less s.list.items found → act ≡ opening_act (reverse s.scans.items) s.dry list → scans ≡ reverse (drop 1 (reverse s.scans.items)) → stands s.dry s.limit (reverse scans) act s.unlinked s.room s.removed list ≡ after v (Found found)
 found_of s v found list act scans e i h fewer opens others =

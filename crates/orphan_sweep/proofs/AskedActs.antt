@@ -13,11 +13,11 @@ use Rattle.orphan_sweep.specs.Rest.{groups}
 use Rattle.orphan_sweep.specs.Plan.{scan_act, group_acts, groups_to_remove, removal, is_answer_to, unlinks}
 use Rattle.orphan_sweep.specs.History.{History, begun, and_told, rest_of, acts_of, acts_done, acts_left, first_act, next_act, is_commit, removed_of}
 use Rattle.orphan_sweep.specs.Law.{AreAnswers, asked, and_all_told, is_refused, is_report, KeepsAnswers, AsksByPlan, RemovesTheRest, RemovesAll, StopsAtARefusal, OnlyScans}
-use Rattle.orphan_sweep.proofs.Groups.{unlinks-append, unlinks-groups, concat-groups}
+use Rattle.orphan_sweep.proofs.Groups.{unlinks-append, unlinks-groups, concat-groups, none-work, work}
 use Rattle.orphan_sweep.proofs.Histories.{none-drop, is_ending, acts-whole, take-more, not_true, right_or}
 use Rattle.orphan_sweep.specs.Place.{is_unlink}
-use Rattle.orphan_sweep.proofs.Steps.{the_refused}
-use Rattle.orphan_sweep.proofs.ToldLaw.{plan_of, rest-kept, left_there, done-granted, done-refused_of, whole-found, acts-found, state-granted, state-refused}
+use Rattle.orphan_sweep.proofs.ActKinds.{the_refused}
+use Rattle.orphan_sweep.proofs.OneMoreAnswer.{plan_of, rest-kept, left_there, done-granted, done-refused_of, whole-found, acts-found, state-granted, state-refused}
 
 -- the answers of a history that is told more
 told-answers : (h : History) (answers : List Told) → and_all_told h answers ≡ record { dry = h.dry; limit = h.limit; list = h.list; scans = h.scans; answers = h.answers ++ answers }
@@ -69,19 +69,6 @@ asks_by_plan dry limit list scans answers fit none =
     let end = sym (keeps_answers dry limit list scans answers) in
     subst P end (λ e. e ∙ done-plan (record { dry = dry; limit = limit; list = list; scans = scans; answers = answers }) none) (asked-from_start dry limit list scans answers fit)
 
-report-group : (g : List ℕ) → list_any is_report (map (λ o. Unlink o) g ++ Commit ∷ []) ≡ false
-report-group [] = refl
-report-group (o ∷ g) = report-group g
-
-report-groups : (gs : List (List ℕ)) → list_any is_report (flat_map group_acts gs) ≡ false
-report-groups [] = refl
-report-groups (g ∷ gs) =
-    list_any-append is_report (group_acts g) (flat_map group_acts gs) ∙ ap (λ b. b || list_any is_report (flat_map group_acts gs)) (report-group g) ∙ report-groups gs
-
-report-scans : (scans : List Scan) (gs : List (List ℕ)) → list_any is_report (map scan_act scans ++ flat_map group_acts gs) ≡ false
-report-scans [] gs = report-groups gs
-report-scans (scan ∷ scans) gs = report-scans scans gs
-
 -- before the report comes all that stands before it
 before_report : (xs : List SweepAct) (n : ℕ) → list_any is_report xs ≡ false → first_act (drop n (xs ++ Report ∷ [])) ≡ Report → take n (xs ++ Report ∷ []) ≡ xs
 before_report [] zero h e = refl
@@ -109,10 +96,6 @@ commits-groups [] = refl
 commits-groups (g ∷ gs) =
     ap length (filter-append is_commit (group_acts g) (flat_map group_acts gs) ∙ ap (λ xs. xs ++ filter is_commit (flat_map group_acts gs)) (commits-group g)) ∙ ap suc (commits-groups gs)
 
--- the scans and the groups
-abbrev pub work : List Scan → List (List ℕ) → List SweepAct
-work scans gs = map scan_act scans ++ flat_map group_acts gs
-
 unlinks-work : (limit : ℕ) (scans : List Scan) (rest : List ℕ) → unlinks (work scans (groups limit rest)) ≡ rest
 unlinks-work limit scans rest =
     unlinks-append (map scan_act scans) (flat_map group_acts (groups limit rest)) ∙ ap (λ xs. xs ++ unlinks (flat_map group_acts (groups limit rest))) (unlinks-scans scans) ∙ unlinks-groups (groups limit rest) ∙ concat-groups limit rest
@@ -130,7 +113,7 @@ reported limit list scans answers none next =
     let gs : List (List ℕ) = groups limit (rest_of h) in
     let split : plan_of h ≡ work scans gs ++ Report ∷ [] = sym (append_assoc (map scan_act scans) (flat_map group_acts gs) (Report ∷ [])) in
     let whole : acts_of h ≡ work scans gs ++ Report ∷ [] = acts-whole (plan_of h) answers none ∙ split in
-    let done : acts_done h ≡ work scans gs = ap (take (length answers)) whole ∙ before_report (work scans gs) (length answers) (report-scans scans gs) (ap (λ acts. first_act (drop (length answers) acts)) (sym whole) ∙ next) in
+    let done : acts_done h ≡ work scans gs = ap (take (length answers)) whole ∙ before_report (work scans gs) (length answers) (none-work is_report (record { scan = λ table column. refl; begin = refl; unlink = λ o. refl; commit = refl }) scans gs) (ap (λ acts. first_act (drop (length answers) acts)) (sym whole) ∙ next) in
     record {
       by_groups = done;
       each = ap unlinks done ∙ unlinks-work limit scans (rest_of h);

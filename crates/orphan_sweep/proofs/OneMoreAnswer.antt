@@ -4,7 +4,7 @@ use Rattle.std.proofs.lemmas.List.Elements.{filter-append}
 use Rattle.std.specs.List.{filter, concat, list_any}
 use Rattle.orphan_sweep.specs.declared.act.Scan.{Scan}
 use Rattle.orphan_sweep.specs.declared.act.SweepAct.{SweepAct}
-use Rattle.orphan_sweep.specs.declared.act.SweepAct.TheVariants.{Scan as Scanning, Begin, Unlink, Commit, Rollback, Report, Idle}
+use Rattle.orphan_sweep.specs.declared.act.SweepAct.TheVariants.{Commit}
 use Rattle.orphan_sweep.specs.declared.act.Told.{Told}
 use Rattle.orphan_sweep.specs.declared.act.Told.TheVariants.{Found, Granted, Refused}
 use Rattle.orphan_sweep.specs.Rest.{less}
@@ -15,6 +15,7 @@ use Rattle.orphan_sweep.specs.State.{State, state_of, next_of}
 use Rattle.orphan_sweep.specs.Law.{is_refused}
 use Rattle.orphan_sweep.proofs.Histories.{less-nil, rest-more, is_ending, is_scan, drop-more, acts-granted, acts-whole, unrefused, left-refused, done-refused, take-more, there, within, commits-scans, among_scans, left-found}
 use Rattle.orphan_sweep.proofs.Commits.{commit_removes}
+use Rattle.orphan_sweep.proofs.ActKinds.{the_commit, the_refused, the_scan}
 
 -- the plan of a history
 abbrev pub plan_of : History → List SweepAct
@@ -48,15 +49,6 @@ done-granted h fits =
 abbrev removed_by : History → List SweepAct → ℕ
 removed_by h done = length (concat (take (length (filter is_commit done)) (groups_to_remove h.dry h.limit (rest_of h))))
 
-the_commit : (act : SweepAct) → is_commit act ≡ true → act ≡ Commit
-the_commit (Scanning table column) h = cc
-the_commit Begin h = cc
-the_commit (Unlink o) h = cc
-the_commit Commit h = refl
-the_commit Rollback h = cc
-the_commit Report h = cc
-the_commit Idle h = cc
-
 removed-other : (h : History) (act : SweepAct) → is_commit act ≡ false → removed_by h (acts_done h ++ act ∷ []) ≡ removed_of h
 removed-other h act e =
     let same : filter is_commit (acts_done h ++ act ∷ []) ≡ filter is_commit (acts_done h) = filter-append is_commit (acts_done h) (act ∷ []) ∙ ap (λ b. filter is_commit (acts_done h) ++ cond b (act ∷ []) []) e ∙ append-nil (filter is_commit (acts_done h)) in
@@ -89,19 +81,9 @@ state-granted h fits =
     same_state h.dry h.limit _ _ _ _ _ _ _ _ (drop-more h.scans h.answers Granted) (rest-kept h Granted refl) (removed-granted h (is_commit (next_act h)) fits refl)
     (ap (drop (length (h.answers ++ Granted ∷ []))) (acts-kept h) ∙ drop-more (acts_of h) h.answers Granted)
 
--- only an unlink is refused, which is neither a commit nor one of the ending acts
-is_refusable : (act : SweepAct) → is_answer_to act Refused ≡ true → (is_commit act ≡ false) × (is_ending act ≡ false)
-is_refusable (Scanning table column) h = cc
-is_refusable Begin h = cc
-is_refusable (Unlink o) h = (refl, refl)
-is_refusable Commit h = cc
-is_refusable Rollback h = cc
-is_refusable Report h = cc
-is_refusable Idle h = cc
-
 pub whole-refused : (h : History) → is_answer_to (next_act h) Refused ≡ true → list_any is_refused h.answers ≡ false
 whole-refused h fits =
-    unrefused (plan_of h) h.answers (is_refusable (next_act h) fits).1
+    unrefused (plan_of h) h.answers (ap is_ending (the_refused (next_act h) fits).1)
 
 pub done-refused_of : (h : History) → is_answer_to (next_act h) Refused ≡ true → acts_done (and_told h Refused) ≡ acts_done h ++ next_act h ∷ []
 done-refused_of h fits =
@@ -114,26 +96,16 @@ state-refused h fits =
     let whole : acts_of h ≡ plan_of h = acts-whole (plan_of h) h.answers none in
     let few : n < length (plan_of h) = within (plan_of h) n (next_act h) (drop 1 (acts_left h)) (ap (drop n) (sym whole) ∙ left_there h Refused fits) in
     same_state h.dry h.limit _ _ _ _ _ _ _ _ (drop-more h.scans h.answers Refused) (rest-kept h Refused refl)
-    (removed-kept h Refused (next_act h) refl (done-refused_of h fits) ∙ removed-other h (next_act h) (is_refusable (next_act h) fits).0)
+    (removed-kept h Refused (next_act h) refl (done-refused_of h fits) ∙ removed-other h (next_act h) (ap is_commit (the_refused (next_act h) fits).1))
     (ap (λ plan. drop (length (h.answers ++ Refused ∷ [])) (acts_given plan (h.answers ++ Refused ∷ []))) (plan-kept h Refused refl) ∙ left-refused (plan_of h) h.answers none few)
-
--- only a scan finds numbers
-is_findable : (act : SweepAct) (numbers : List ℕ) → is_answer_to act (Found numbers) ≡ true → (is_scan act ≡ true) × (is_ending act ≡ false)
-is_findable (Scanning table column) numbers h = (refl, refl)
-is_findable Begin numbers h = cc
-is_findable (Unlink o) numbers h = cc
-is_findable Commit numbers h = cc
-is_findable Rollback numbers h = cc
-is_findable Report numbers h = cc
-is_findable Idle numbers h = cc
 
 -- where a scan is next, nothing was refused, and fewer answers came than there are scans
 pub whole-found : (h : History) (numbers : List ℕ) → is_answer_to (next_act h) (Found numbers) ≡ true → (list_any is_refused h.answers ≡ false) × (length h.answers < length h.scans)
 whole-found h numbers fits =
-    let scan = is_findable (next_act h) numbers fits in
-    let none : list_any is_refused h.answers ≡ false = unrefused (plan_of h) h.answers scan.1 in
+    let scan = (the_scan (next_act h) numbers fits).2 in
+    let none : list_any is_refused h.answers ≡ false = unrefused (plan_of h) h.answers (ap is_ending scan) in
     let whole : acts_of h ≡ plan_of h = acts-whole (plan_of h) h.answers none in
-    (none, among_scans (length h.answers) h.scans (groups_to_remove h.dry h.limit (rest_of h)) (ap (λ acts. is_scan (first_act (drop (length h.answers) acts))) (sym whole) ∙ scan.0))
+    (none, among_scans (length h.answers) h.scans (groups_to_remove h.dry h.limit (rest_of h)) (ap (λ acts. is_scan (first_act (drop (length h.answers) acts))) (sym whole) ∙ ap is_scan scan))
 
 -- among the scans nothing is removed
 removed-none : (h : History) → acts_of h ≡ plan_of h → length h.answers ≤ length h.scans → removed_of h ≡ 0
