@@ -1,0 +1,132 @@
+ghost use Rattle.std.specs.Prelude.{◌≡◌, ◌+◌, ◌-◌, ◌≤◌, ◌++◌, ◌↔◌, ℕ, List, Some, None, length, take, drop, min, replicate, slice_set, IsErr, OnOk, OnErr, IfOk};
+ghost use Rattle.block_pool.specs.Blocks.{block_at, bytes_of, Holds, IsInUse, IsFree, used_count, free_count, OnlyTouches};
+
+use crate::block::Block;
+use crate::room::Room;
+use lo_base::{NoMemory, Steps};
+use std::alloc::Global;
+use std::marker::Model;
+use std::sync::ledger::Ledger;
+
+/// Every block of the pool is in use.
+#[derive(Clone, Copy, Debug, PartialEq, Eq)]
+pub struct PoolFull;
+
+/// A fixed number of blocks, each free or in use with 0 to 2048 bytes.
+#[derive(Drop)]
+pub struct Pool {
+    rooms: Vec<Room>,
+    returned: Vec<u32>,
+    size: u32,
+}
+
+impl Model for Pool {
+    ghost use Rattle.std.specs.Prelude.{ℕ, List, Option};
+    ghost use Rattle.block_pool.specs.Rooms.{all_blocks, IsKept};
+
+    ghost Value = { List (Option (List ℕ)) };
+
+    ghost view = { λ p. all_blocks p.size p.rooms.items };
+
+    ghost invariant = { λ p. IsKept p.size p.rooms p.returned };
+}
+
+impl Pool {
+    pub fn new(alloc: Global, blocks: u32) -> Result<Pool, NoMemory>
+        ensures { IfOk result (λ pool. pool ≡ replicate blocks None) }
+    {
+        Ok(Pool {
+            rooms: Vec::with_capacity(alloc, blocks as usize)?,
+            returned: Vec::with_capacity(alloc, blocks as usize)?,
+            size: blocks,
+        })
+    }
+
+    pub fn take(&mut self, bytes: &[u8]) -> Result<Block, PoolFull>
+        requires { length bytes.now ≤ 2048 }
+        ensures full { IsErr result ↔ (free_count self.old ≡ 0) }
+        ensures unchanged { OnErr result (self.new ≡ self.old) }
+        ensures free { IfOk result (λ block. IsFree self.old block) }
+        ensures taken { IfOk result (λ block. self.new ≡ slice_set self.old block (Some bytes.now)) }
+        ensures holds { IfOk result (λ block. Holds self.new block bytes.now) }
+        ensures others { IfOk result (λ block. OnlyTouches block self.old self.new) }
+        ensures kept { (block : ℕ) (held : List ℕ) → Holds self.old block held → Holds self.new block held }
+        ensures used { OnOk result (used_count self.new ≡ used_count self.old + 1) }
+    {
+        if let Some(index) = self.returned.pop() {
+            self.rooms[index as usize].fill(bytes);
+            return Ok(Block { index });
+        }
+        let index = self.rooms.len() as u32;
+        if index == self.size {
+            return Err(PoolFull);
+        }
+        self.rooms.push_reserved(Room::free());
+        self.rooms[index as usize].fill(bytes);
+        Ok(Block { index })
+    }
+
+    pub fn read<L: Ledger>(
+        &self,
+        block: &Block,
+        at: u32,
+        out: &mut [u8],
+        steps: &mut Steps<L>,
+    ) -> usize
+        requires { IsInUse self.now block.now }
+        ensures count { result ≡ min (length out.old) (length (bytes_of (block_at self.now block.now)) - at) }
+        ensures copied { out.new ≡ take result (drop at (bytes_of (block_at self.now block.now))) ++ drop result out.old }
+        ensures step { steps.new ≡ steps.old + 1 }
+    {
+        steps.tick();
+        let held = self.rooms[block.index as usize].bytes();
+        let start = held.len().min(at as usize);
+        copy_front(&held[start..], out)
+    }
+
+    pub fn give(&mut self, block: Block)
+        requires { IsInUse self.old block }
+        ensures given { self.new ≡ slice_set self.old block None }
+        ensures free { IsFree self.new block }
+        ensures others { OnlyTouches block self.old self.new }
+        ensures used { used_count self.new + 1 ≡ used_count self.old }
+    {
+        self.rooms[block.index as usize].clear();
+        self.returned.push_reserved(block.index);
+    }
+
+    /// How many bytes the block holds.
+    pub fn len(&self, block: &Block) -> u32
+        requires { IsInUse self.now block.now }
+        ensures length { result ≡ length (bytes_of (block_at self.now block.now)) }
+        ensures within { result ≤ 2048 }
+    {
+        self.rooms[block.index as usize].bytes().len() as u32
+    }
+
+    /// How many blocks are in use.
+    pub fn used(&self) -> u32
+        ensures used { result ≡ used_count self.now }
+        ensures size { result + free_count self.now ≡ length self.now }
+    {
+        (self.rooms.len() - self.returned.len()) as u32
+    }
+
+    /// How many blocks are free.
+    pub fn free(&self) -> u32
+        ensures free { result ≡ free_count self.now }
+        ensures size { used_count self.now + result ≡ length self.now }
+    {
+        self.size - self.used()
+    }
+}
+
+/// Copies to the front of `to` as many bytes as there are and as fit.
+fn copy_front(from: &[u8], to: &mut [u8]) -> usize
+    ensures count { result ≡ min (length to.old) (length from.now) }
+    ensures copied { to.new ≡ take result from.now ++ drop result to.old }
+{
+    let n = to.len().min(from.len());
+    to[..n].copy_from_slice(&from[..n]);
+    n
+}
