@@ -104,12 +104,12 @@ impl Pool {
         self.rooms[block.index as usize].bytes().len() as u32
     }
 
-    /// How many blocks are in use.
+    /// How many blocks are in use. Those that were dropped and not given back are among them.
     pub fn used(&self) -> u32
         ensures used { result ≡ used_count self.now }
         ensures size { result + free_count self.now ≡ length self.now }
     {
-        (self.rooms.len() - self.returned.len()) as u32
+        self.size - self.free()
     }
 
     /// How many blocks are free.
@@ -117,7 +117,8 @@ impl Pool {
         ensures free { result ≡ free_count self.now }
         ensures size { used_count self.now + result ≡ length self.now }
     {
-        self.size - self.used()
+        let untouched = self.size as usize - self.rooms.len();
+        (untouched + self.returned.len()) as u32
     }
 }
 
