@@ -1,2 +1,3 @@
-pub mod Rooming
-pub mod Touching
+pub mod ReturnedBlocks
+pub mod RoomsAsBlocks
+pub mod TakeAndGive

@@ -1,5 +1,5 @@
--- What contracts see of a pool: a list with an entry for each block, which is nothing where the block is free, and else
--- the bytes that it holds. A block in use is seen as its index in that list.
+-- What contracts see of a pool: a list with an entry for each of its blocks, which is nothing where the block is free,
+-- and else the bytes that it holds. A block is seen as its index in that list.
 use Rattle.std.specs.Prelude.{◌≡◌, ◌≢◌, ◌<◌, ℕ, List, [], length, Option, Some, None, IsSome, is_some, is_none, count_by, slice_index_or, unwrap_or}
 
 -- what a block holds; nothing where it is free, and where the pool has no such block
@@ -10,7 +10,10 @@ block_at pool block = slice_index_or pool block None
 abbrev pub bytes_of : Option (List ℕ) → List ℕ
 bytes_of held = unwrap_or held []
 
--- the block is in use and holds just these bytes
+abbrev pub bytes_in : List (Option (List ℕ)) → ℕ → List ℕ
+bytes_in pool block = bytes_of (block_at pool block)
+
+-- the block is in use, with just these bytes
 abbrev pub Holds : List (Option (List ℕ)) → ℕ → List ℕ → Type 0
 Holds pool block bytes = block_at pool block ≡ Some bytes
 
@@ -28,7 +31,7 @@ used_count pool = count_by is_some pool
 abbrev pub free_count : List (Option (List ℕ)) → ℕ
 free_count pool = count_by is_none pool
 
--- every block but this one is in use or free as before, and holds the bytes that it held
+-- every other block is in use or free as before, and holds what it held
 pub record OnlyTouches (block : ℕ) (old new : List (Option (List ℕ))) : Type 0 where
   pub size : length new ≡ length old
   pub others : (other : ℕ) → other ≢ block → block_at new other ≡ block_at old other

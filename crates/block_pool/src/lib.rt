@@ -5,6 +5,8 @@
 mod block;
 mod pool;
 mod room;
+#[cfg(test)]
+mod tests;
 
 pub use block::Block;
 pub use pool::{Pool, PoolFull};

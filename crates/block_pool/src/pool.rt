@@ -1,5 +1,7 @@
+// The pool and its calls. Fields are touched here alone; `specs/Rooms.antt` says what they keep. After `new` no call may
+// grow a list.
 ghost use Rattle.std.specs.Prelude.{◌≡◌, ◌+◌, ◌-◌, ◌≤◌, ◌++◌, ◌↔◌, ℕ, List, Some, None, length, take, drop, min, replicate, slice_set, IsErr, OnOk, OnErr, IfOk};
-ghost use Rattle.block_pool.specs.Blocks.{block_at, bytes_of, Holds, IsInUse, IsFree, used_count, free_count, OnlyTouches};
+ghost use Rattle.block_pool.specs.Blocks.{bytes_in, Holds, IsInUse, IsFree, used_count, free_count, OnlyTouches};
 
 use crate::block::Block;
 use crate::room::Room;
@@ -12,10 +14,13 @@ use std::sync::ledger::Ledger;
 #[derive(Clone, Copy, Debug, PartialEq, Eq)]
 pub struct PoolFull;
 
-/// A fixed number of blocks, each free or in use with 0 to 2048 bytes.
+/// A fixed number of blocks, each free or in use with 0 to 2048 bytes. Contracts see a list with an entry for each block,
+/// by its index: nothing for a free one, and else its bytes.
 #[derive(Drop)]
 pub struct Pool {
+    // One for each block that was ever taken. Those after them were never written to.
     rooms: Vec<Room>,
+    // The indices of the blocks that were given back.
     returned: Vec<u32>,
     size: u32,
 }
@@ -32,6 +37,9 @@ impl Model for Pool {
 }
 
 impl Pool {
+    /// A pool of that many blocks, all of them free. It takes 2056 bytes a block, all that its calls will ever need, and
+    /// writes to none of them: where the system gives pages when they are first written to, a block costs a page only
+    /// from its first `take` on.
     pub fn new(alloc: Global, blocks: u32) -> Result<Pool, NoMemory>
         ensures { IfOk result (λ pool. pool ≡ replicate blocks None) }
     {
@@ -42,6 +50,7 @@ impl Pool {
         })
     }
 
+    /// Puts the bytes, at most 2048, into a free block, which is in use until it is given back.
     pub fn take(&mut self, bytes: &[u8]) -> Result<Block, PoolFull>
         requires { length bytes.now ≤ 2048 }
         ensures full { IsErr result ↔ (free_count self.old ≡ 0) }
@@ -50,8 +59,10 @@ impl Pool {
         ensures taken { IfOk result (λ block. self.new ≡ slice_set self.old block (Some bytes.now)) }
         ensures holds { IfOk result (λ block. Holds self.new block bytes.now) }
         ensures others { IfOk result (λ block. OnlyTouches block self.old self.new) }
+        // whatever the answer, a block in use keeps its bytes
         ensures kept { (block : ℕ) (held : List ℕ) → Holds self.old block held → Holds self.new block held }
         ensures used { OnOk result (used_count self.new ≡ used_count self.old + 1) }
+        ensures left { OnOk result (free_count self.new + 1 ≡ free_count self.old) }
     {
         if let Some(index) = self.returned.pop() {
             self.rooms[index as usize].fill(bytes);
@@ -66,6 +77,8 @@ impl Pool {
         Ok(Block { index })
     }
 
+    /// Copies the block's bytes from `at` on to the front of `out`, as many as there are and as fit, and answers how many
+    /// these are: none where `at` is at or past their end.
     pub fn read<L: Ledger>(
         &self,
         block: &Block,
@@ -74,22 +87,26 @@ impl Pool {
         steps: &mut Steps<L>,
     ) -> usize
         requires { IsInUse self.now block.now }
-        ensures count { result ≡ min (length out.old) (length (bytes_of (block_at self.now block.now)) - at) }
-        ensures copied { out.new ≡ take result (drop at (bytes_of (block_at self.now block.now))) ++ drop result out.old }
+        ensures count { result ≡ min (length out.old) (length (bytes_in self.now block.now) - at) }
+        ensures copied { out.new ≡ take result (drop at (bytes_in self.now block.now)) ++ drop result out.old }
         ensures step { steps.new ≡ steps.old + 1 }
     {
         steps.tick();
         let held = self.rooms[block.index as usize].bytes();
-        let start = held.len().min(at as usize);
-        copy_front(&held[start..], out)
+        let rest = &held[held.len().min(at as usize)..];
+        let count = out.len().min(rest.len());
+        out[..count].copy_from_slice(&rest[..count]);
+        count
     }
 
+    /// Gives the block back, which is free then.
     pub fn give(&mut self, block: Block)
         requires { IsInUse self.old block }
         ensures given { self.new ≡ slice_set self.old block None }
         ensures free { IsFree self.new block }
         ensures others { OnlyTouches block self.old self.new }
         ensures used { used_count self.new + 1 ≡ used_count self.old }
+        ensures left { free_count self.new ≡ free_count self.old + 1 }
     {
         self.rooms[block.index as usize].clear();
         self.returned.push_reserved(block.index);
@@ -98,7 +115,7 @@ impl Pool {
     /// How many bytes the block holds.
     pub fn len(&self, block: &Block) -> u32
         requires { IsInUse self.now block.now }
-        ensures length { result ≡ length (bytes_of (block_at self.now block.now)) }
+        ensures len { result ≡ length (bytes_in self.now block.now) }
         ensures within { result ≤ 2048 }
     {
         self.rooms[block.index as usize].bytes().len() as u32
@@ -120,14 +137,4 @@ impl Pool {
         let untouched = self.size as usize - self.rooms.len();
         (untouched + self.returned.len()) as u32
     }
-}
-
-/// Copies to the front of `to` as many bytes as there are and as fit.
-fn copy_front(from: &[u8], to: &mut [u8]) -> usize
-    ensures count { result ≡ min (length to.old) (length from.now) }
-    ensures copied { to.new ≡ take result from.now ++ drop result to.old }
-{
-    let n = to.len().min(from.len());
-    to[..n].copy_from_slice(&from[..n]);
-    n
 }

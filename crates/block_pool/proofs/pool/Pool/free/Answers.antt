@@ -1,8 +1,8 @@
 use Rattle.std.proofs.Common.{◌≡◌, ◌+◌, ◌-◌, length, arith, rules}
 use Rattle.block_pool.specs.Blocks.{used_count, free_count}
 use Rattle.block_pool.specs.Rooms.{all_blocks}
-use Rattle.block_pool.proofs.Rooming.{used_all, length_all}
-use Rattle.block_pool.proofs.Touching.{all_counted}
+use Rattle.block_pool.proofs.RoomsAsBlocks.{used_all, length_all}
+use Rattle.block_pool.proofs.TakeAndGive.{all_counted}
 use Rattle.block_pool.proofs.pool.Pool.free.Goals as goal
 
 pub returns-clause-free : goal.returns-clause-free

@@ -1,4 +1,4 @@
-use Rattle.block_pool.proofs.Rooming.{set_all, used_within}
+use Rattle.block_pool.proofs.RoomsAsBlocks.{set_all, used_within}
 use Rattle.block_pool.proofs.pool.Pool.give.Goals as goal
 
 pub returns-clause-given : goal.returns-clause-given
