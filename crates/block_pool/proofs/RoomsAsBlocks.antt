@@ -1,10 +1,10 @@
 -- How the rooms of a pool, followed by blocks that were never taken, stand for its blocks.
-use Rattle.std.proofs.Common.{◌≡◌, ◌<◌, ◌≤◌, ◌+◌, ◌-◌, ℕ, suc, zero, List, [], ◌∷◌, ◌++◌, length, replicate, Option, Some, None, refl, sym, ◌∙◌, arith, append_assoc, length-set, length-append}
+use Rattle.std.proofs.Common.{◌≡◌, ◌<◌, ◌≤◌, ◌-◌, ℕ, suc, zero, List, [], ◌∷◌, ◌++◌, length, replicate, Option, None, refl, sym, ◌∙◌, arith, append_assoc, length-set, length-append}
 use Rattle.std.specs.Prelude.{slice_set}
 use Rattle.std.proofs.lemmas.Grind.{common_steps}
 use Rattle.std.proofs.lemmas.List.{length-replicate, get_or_append_left, get_or-append_right, get_or-replicate, set-append_left, length_push}
 use Rattle.std.proofs.lemmas.List.Sums.{sum_by-cons, sum_by-append}
-use Rattle.block_pool.specs.Blocks.{block_at, IsInUse, IsFree, used_count}
+use Rattle.block_pool.specs.Blocks.{IsInUse, IsFree, used_count}
 use Rattle.block_pool.specs.Rooms.{all_blocks}
 
 none_used : (count : ℕ) → used_count (replicate count None) ≡ 0

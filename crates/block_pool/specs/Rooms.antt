@@ -1,5 +1,5 @@
 -- How a pool's rooms and its list of blocks that were given back stand for what contracts see. Callers see none of it.
-use Rattle.std.specs.Prelude.{◌≡◌, ◌≤◌, ◌+◌, ◌-◌, ◌++◌, ◌==◌, ℕ, List, [], length, replicate, Bool, Option, Some, None, is_some, is_none, count_by, slice_index_or, Vec, vec_capacity, if◌then◌else◌}
+use Rattle.std.specs.Prelude.{◌≡◌, ◌≤◌, ◌+◌, ◌-◌, ◌++◌, ◌==◌, ℕ, List, [], length, replicate, Option, Some, None, is_none, count_by, slice_index_or, Vec, vec_capacity, if◌then◌else◌}
 use Rattle.std.specs.declared.alloc.Global.{Global}
 use Rattle.block_pool.specs.Blocks.{used_count}
 

@@ -30,7 +30,11 @@ fn reads<L: Ledger>(
     let block = pool.take(bytes).ok().ok_or("full")?;
     for (at, count, left) in cases {
         let mut out = [b'.'; 4];
-        assert_eq!(rt; pool.read(&block, *at, &mut out, &mut steps), *count, "from {at}");
+        assert_eq!(rt;
+            pool.read(&block, *at, &mut out, &mut steps),
+            *count,
+            "from {at}"
+        );
         assert_eq!(rt; out.as_slice(), *left, "from {at}");
     }
     Ok(())
@@ -52,8 +56,11 @@ fn a_read_stops_at_the_end_and_leaves_the_rest(rt: HostRuntime) -> Result<(), Fa
 
 #[test]
 fn a_block_of_2048_bytes_is_read_to_its_end(rt: HostRuntime) -> Result<(), Fail> {
-    let cases: [(u32, usize, &[u8]); 3] =
-        [(2044, 4, b"xxxx"), (2047, 1, b"x..."), (2048, 0, b"....")];
+    let cases: [(u32, usize, &[u8]); 3] = [
+        (2044, 4, b"xxxx"),
+        (2047, 1, b"x..."),
+        (2048, 0, b"...."),
+    ];
     reads::<Brand>(&rt, rt.alloc(), &[b'x'; 2048], &cases, Blank::new(1))
 }
 

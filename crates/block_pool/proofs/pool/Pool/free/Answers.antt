@@ -1,5 +1,4 @@
-use Rattle.std.proofs.Common.{◌≡◌, ◌+◌, ◌-◌, length, arith, rules}
-use Rattle.block_pool.specs.Blocks.{used_count, free_count}
+use Rattle.std.proofs.Common.{◌≡◌, length, arith, rules}
 use Rattle.block_pool.specs.Rooms.{all_blocks}
 use Rattle.block_pool.proofs.RoomsAsBlocks.{used_all, length_all}
 use Rattle.block_pool.proofs.TakeAndGive.{all_counted}
