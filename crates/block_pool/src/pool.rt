@@ -1,6 +1,6 @@
 // The pool and its calls. Fields are touched here alone; `specs/Rooms.antt` says what they keep. After `new` no call may
 // grow a list.
-ghost use Rattle.std.specs.Prelude.{◌≡◌, ◌+◌, ◌-◌, ◌≤◌, ◌++◌, ◌↔◌, ℕ, List, Some, None, length, take, drop, min, replicate, slice_set, IsErr, OnOk, OnErr, IfOk};
+ghost use Rattle.std.specs.Prelude.{◌≡◌, ◌≢◌, ◌+◌, ◌-◌, ◌≤◌, ◌++◌, ◌↔◌, ℕ, List, Some, None, length, take, drop, min, replicate, slice_set, IsErr, OnOk, OnErr, IfOk};
 ghost use Rattle.block_pool.specs.Blocks.{bytes_in, Holds, IsInUse, IsFree, used_count, free_count, OnlyTouches};
 
 use crate::block::Block;
@@ -56,11 +56,13 @@ impl Pool {
         ensures full { IsErr result ↔ (free_count self.old ≡ 0) }
         ensures unchanged { OnErr result (self.new ≡ self.old) }
         ensures free { IfOk result (λ block. IsFree self.old block) }
-        ensures taken { IfOk result (λ block. self.new ≡ slice_set self.old block (Some bytes.now)) }
+        ensures taken { IfOk result (λ block.
+            self.new ≡ slice_set self.old block (Some bytes.now)) }
         ensures holds { IfOk result (λ block. Holds self.new block bytes.now) }
         ensures others { IfOk result (λ block. OnlyTouches block self.old self.new) }
         // whatever the answer, a block in use keeps its bytes
-        ensures kept { (block : ℕ) (held : List ℕ) → Holds self.old block held → Holds self.new block held }
+        ensures kept { (block : ℕ) (held : List ℕ) →
+            Holds self.old block held → Holds self.new block held }
         ensures used { OnOk result (used_count self.new ≡ used_count self.old + 1) }
         ensures left { OnOk result (free_count self.new + 1 ≡ free_count self.old) }
     {
@@ -88,7 +90,8 @@ impl Pool {
     ) -> usize
         requires { IsInUse self.now block.now }
         ensures count { result ≡ min (length out.old) (length (bytes_in self.now block.now) - at) }
-        ensures copied { out.new ≡ take result (drop at (bytes_in self.now block.now)) ++ drop result out.old }
+        ensures copied { out.new ≡
+            take result (drop at (bytes_in self.now block.now)) ++ drop result out.old }
         ensures step { steps.new ≡ steps.old + 1 }
     {
         steps.tick();
@@ -105,6 +108,8 @@ impl Pool {
         ensures given { self.new ≡ slice_set self.old block None }
         ensures free { IsFree self.new block }
         ensures others { OnlyTouches block self.old self.new }
+        ensures kept { (other : ℕ) (held : List ℕ) →
+            other ≢ block → Holds self.old other held → Holds self.new other held }
         ensures used { used_count self.new + 1 ≡ used_count self.old }
         ensures left { free_count self.new ≡ free_count self.old + 1 }
     {

@@ -1,3 +1,4 @@
+// The memory of one block. Its bytes are touched here alone; callers see what it holds.
 ghost use Rattle.std.specs.Prelude.{◌≡◌, ◌≤◌, Some, None, length};
 ghost use Rattle.block_pool.specs.Blocks.{bytes_of};
 

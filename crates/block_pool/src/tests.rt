@@ -1,4 +1,4 @@
-// Reads at each place of a block, a pool that is full and one of the largest size, and what a block costs. The contracts
+// Reads at each place of a block, a pool that is full and one of 512 MiB, and what a block costs. The contracts
 // say the rest.
 ghost use Rattle.std.specs.Prelude.{◌≡◌, ◌<◌, ◌≤◌, length};
 
@@ -99,6 +99,17 @@ fn a_pool_of_512_mib_takes_ten_thousand_blocks(rt: HostRuntime) -> Result<(), Fa
         assert!(rt; pool.take(&[b'x'; 2048]).is_ok());
     }
     assert_eq!(rt; (pool.used(), pool.free()), (10_000, 252_144));
+    Ok(())
+}
+
+fn crosses<T: Send + Sync>(_value: &T) {}
+
+#[test]
+fn a_pool_and_its_blocks_may_go_to_another_thread(rt: HostRuntime) -> Result<(), Fail> {
+    let mut pool = Pool::new(rt.alloc(), 1)?;
+    let block = pool.take(b"").ok().ok_or("full")?;
+    crosses(&block);
+    crosses(&pool);
     Ok(())
 }
 
