@@ -1,0 +1,3 @@
+pub mod ReturnedBlocks
+pub mod RoomsAsBlocks
+pub mod TakeAndGive
