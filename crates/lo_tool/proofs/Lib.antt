@@ -1,2 +1,2 @@
-pub mod Leaving
-pub mod Pieces
+pub mod PiecesOfText
+pub mod Statuses

@@ -1,7 +1,9 @@
+//! Reading a file whole. The size that is told first is a limit, and the reads say what the file holds.
 ghost use Rattle.std.specs.Prelude.{◌≡◌, ◌≤◌, ◌<◌, ◌+◌, IsTrue, IfOk, IfErr, OnOk, take, length};
 ghost use Rattle.lo_outside.specs.Files.{bytes_of};
-ghost use Rattle.lo_tool.specs.Outcome.{BadFile};
-ghost use Rattle.lo_tool.specs.Reading.{HasStopCause, IsReadWithin, IsStop, IsNoInput};
+ghost use Rattle.lo_tool.specs.Outside.{files_state};
+ghost use Rattle.lo_tool.specs.Reading.{HasStopCause, IsStop, IsNoInput};
+ghost use Rattle.lo_tool.specs.ScriptFile.{BadScript, IsReadWithin};
 ghost use Rattle.lo_tool.specs.Loops.{IsFront};
 
 use crate::stop::Stop;
@@ -18,8 +20,8 @@ const PIECE: usize = 8192;
 
 /// Reads a file that is there and not too long, to its end.
 pub fn read_file<F: Files>(alloc: Global, files: &mut F, name: &str) -> Result<Bytes, Stop>
-    ensures ok { IfOk result (IsReadWithin (record { tells = F.tells files.old; folder = F.folder files.old; faults = F.faults files.old }) name.now) }
-    ensures err { IfErr result (IsStop (BadFile (record { tells = F.tells files.old; folder = F.folder files.old; faults = F.faults files.old }) name.now)) }
+    ensures ok { IfOk result (IsReadWithin (files_state F.Files files.old) name.now) }
+    ensures err { IfErr result (IsStop (BadScript (files_state F.Files files.old) name.now)) }
     ensures tells { F.tells files.new ≡ F.tells files.old }
     ensures folder { F.folder files.new ≡ F.folder files.old }
     ensures cause { HasStopCause (F.faults files.old) (F.faults files.new) result }
