@@ -1,2 +1,3 @@
+mod Examples
 pub mod PiecesOfText
 pub mod Statuses

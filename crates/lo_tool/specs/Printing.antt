@@ -15,5 +15,5 @@ pub data Complains (line : List ℕ) (status : Status) (err err' : SinkState) (r
 pub data Prints (text : List ℕ) (out out' err err' : SinkState) (result : Status) : Type 0 where
   Printed : result ≡ Done → Took text out out' → out'.faults ≡ out.faults → err' ≡ err → Prints text out out' err err' result
   Lost :
-    result ≡ Fault → TookFront text out out' → Rose out.faults out'.faults → Complains fault_line Fault err err' result →
-    Prints text out out' err err' result
+      result ≡ Fault → TookFront text out out' → Rose out.faults out'.faults → Complains fault_line Fault err err' result →
+      Prints text out out' err err' result

@@ -42,8 +42,8 @@ pub record IsOutsideGrammar (name bytes line : List ℕ) : Type 0 where
 pub data BadScript (files : FilesState) (name line : List ℕ) : Type 0 where
   Missing : (IsTrue files.tells → files.folder name ≡ None) → line ≡ line_about name missing → BadScript files name line
   TooLong :
-    (IsTrue files.tells → most_bytes < length (bytes_of (files.folder name))) → line ≡ line_about name too_long →
-    BadScript files name line
+      (IsTrue files.tells → most_bytes < length (bytes_of (files.folder name))) → line ≡ line_about name too_long →
+      BadScript files name line
   OutsideGrammar : (bytes : List ℕ) → IsReadWithin files name bytes → IsOutsideGrammar name bytes line → BadScript files name line
 
 -- a file that tells a script: it is there, not too long and in the grammar

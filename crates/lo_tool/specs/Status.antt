@@ -85,10 +85,10 @@ pub data Leaves (words : List (List ℕ)) (before after : Outside) (status : Sta
   LeavesDone : status ≡ Done → IsDone words before after → IsFaultless before after → Leaves words before after status
   LeavesUsage : status ≡ Usage → IsUsage words before after → IsFaultless before after → Leaves words before after status
   LeavesInput :
-    status ≡ BadInput → IsRefusedInput words before after → IsFaultless before after → Leaves words before after status
+      status ≡ BadInput → IsRefusedInput words before after → IsFaultless before after → Leaves words before after status
   LeavesFault : status ≡ Fault → IsFault words before after → Leaves words before after status
   LeavesNoMemory :
-    status ≡ NoMemory → IsNoMemory words before after → IsFaultless before after → Leaves words before after status
+      status ≡ NoMemory → IsNoMemory words before after → IsFaultless before after → Leaves words before after status
 
 -- the words are a command, the files tell what they hold, and every file that it needs can be used
 pub record IsRunnable (words : List (List ℕ)) (files : FilesState) : Type 0 where

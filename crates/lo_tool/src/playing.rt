@@ -4,7 +4,7 @@ ghost use Rattle.lo_script.specs.ReplyText.{lines_of};
 ghost use Rattle.lo_tool.specs.Reading.{RunsBytes};
 
 use crate::stop::Stop;
-use crate::text::{line_about, bad_line_text};
+use crate::text::{bad_line_text, line_about};
 use lo_base::{Bytes, NoMemory, Reply, SessionNo};
 use lo_machine::{Finished, Running, orders_are_whole};
 use lo_script::{Script, ScriptError, read_script, reply_text};

@@ -69,7 +69,7 @@ pub fn run<R: Threads + Sync, F: Files, O: Sink, G: Gate + Sync>(
     // A command that has all it needs is done, or memory is wanting.
     ensures complete { IsRunnable (map string_bytes words.now) (files_state F.Files files.old) →
         (Failing (outside F.Files O.Sink files.old out.old err.old)
-            (outside F.Files O.Sink files.new out.new err.new) → ⊥) →
+        (outside F.Files O.Sink files.new out.new err.new) → ⊥) →
         EndsWell result }
     ensures tells { TellsAsBefore
         (outside F.Files O.Sink files.old out.old err.old)
