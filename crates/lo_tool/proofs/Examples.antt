@@ -2,9 +2,8 @@
 use Rattle.std.proofs.Common.{◌≡◌, ℕ, ◌≤◌, zero, suc, refl, ap, sym, ◌∙◌, pos, List, [], ◌∷◌, Some, None, replicate, length, lit≤}
 use Rattle.std.specs.Prelude.{codes, slice_get, slice_index_or}
 use Rattle.std.specs.Fmt.{digits}
-use Rattle.hex.specs.Hex.{encode_with, decode_pairs}
 use Rattle.lo_base.specs.declared.request.Request.{Request}
-use Rattle.lo_base.specs.declared.request.Request.TheVariants.{LoCreate, LoPut, LoGet}
+use Rattle.lo_base.specs.declared.request.Request.TheVariants.{LoCreate, LoGet}
 use Rattle.lo_machine.specs.Run.{IsWhole, next_line, end_of, replies_of, schedule_of}
 use Rattle.lo_script.specs.ReplyText.{lines_of}
 use Rattle.lo_script.specs.Script.{ScriptText, script_of, script_with}
@@ -52,18 +51,18 @@ a_bad_line = refl
 
 -- Runs
 
--- an object is made, written behind a hole, and read
+-- an object is made, and one that is not there is read
 text : List ℕ
-text = codes "A: lo_create 17000\nA: lo_put 17000 3 \\x41\nA: lo_get 17000\n"
+text = codes "A: lo_create 17000\nA: lo_get 5\n"
 
 printed : List ℕ
-printed = codes "A: 17000\nA: OK\nA: \\x00000041\n"
+printed = codes "A: 17000\nA: ERROR 42704: large object 5 does not exist\n"
 
 programs : List (List Request)
-programs = (LoCreate 17000 ∷ LoPut 17000 (pos 3) (65 ∷ []) ∷ LoGet 17000 (pos 0) None ∷ []) ∷ replicate 15 []
+programs = (LoCreate 17000 ∷ LoGet 5 (pos 0) None ∷ []) ∷ replicate 15 []
 
 order : List ℕ
-order = 1 ∷ 1 ∷ 1 ∷ []
+order = 1 ∷ 1 ∷ []
 
 no_program : (n s : ℕ) → slice_index_or (replicate n ([] {A = Request})) s [] ≡ []
 no_program zero s = refl
@@ -79,13 +78,13 @@ none_left (suc (suc s)) positive = ap (λ (program : List Request). slice_get pr
 whole : IsWhole programs (schedule_of order)
 unfolding programs order
 whole = record {
-  sessions = (lit≤ tt, lit≤ tt, lit≤ tt, tt);
-  playable = (tt, tt, tt, tt);
+  sessions = (lit≤ tt, lit≤ tt, tt);
+  playable = (tt, tt, tt);
   complete = none_left;
 }
 
 run_of_the_text : RunsTo text printed
-unfolding text printed programs order digits decode_pairs encode_with
+unfolding text printed programs order digits
 run_of_the_text = record {
   script = script_with programs order;
   spells = refl;
@@ -102,7 +101,7 @@ one_text bytes text text' a b =
 
 -- so a text that lacks its last line is that of no run
 shorter_text : List ℕ
-shorter_text = codes "A: 17000\nA: OK\n"
+shorter_text = codes "A: 17000\n"
 
 lacks_a_line : RunsTo text shorter_text → ⊥
 unfolding printed shorter_text
