@@ -63,6 +63,19 @@ fn open_named<R: std::rt::Files + Alloc<A = Global>>(
     Ok(Opened { name, file })
 }
 
+/// The open file if it has that name, and else another.
+fn reopened<R: std::rt::Files + Alloc<A = Global>>(
+    runtime: &R,
+    opened: Opened<R::File>,
+    name: &str,
+) -> io::Result<Opened<R::File>> {
+    if opened.is_named(name) {
+        Ok(opened)
+    } else {
+        open_named(runtime, name)
+    }
+}
+
 /// Reads once at an offset of a file, the one that is open if it has that name.
 fn read_at<R: std::rt::Files + Alloc<A = Global>>(
     runtime: &R,
@@ -74,8 +87,8 @@ fn read_at<R: std::rt::Files + Alloc<A = Global>>(
     ensures { IfOk result (λ read. read.0 ≤ length out.old) }
 {
     let mut opened = match last {
-        Some(opened) if opened.is_named(name) => opened,
-        _ => open_named(runtime, name)?,
+        Some(opened) => reopened(runtime, opened, name)?,
+        None => open_named(runtime, name)?,
     };
     opened.file.seek(SeekFrom::Start(at))?;
     let n = opened.file.read(out)?;
