@@ -1,9 +1,12 @@
 -- Worked cases of the definitions, each computed by the checker: a wrong one fails the crate.
-use Rattle.std.proofs.Common.{◌≡◌, ℕ, ◌≤◌, zero, suc, refl, ap, sym, ◌∙◌, pos, List, [], ◌∷◌, Some, None, replicate, length, lit≤}
+use Rattle.std.proofs.Common.{◌≡◌, ℕ, ◌≤◌, zero, suc, refl, ap, sym, arith, ◌∙◌, pos, List, [], ◌∷◌, Some, None, replicate, length, lit≤}
+use Rattle.std.proofs.lemmas.List.Elements.{All-replicate}
+use native.Mathlib.Numerals.{unary_clauses}
 use Rattle.std.specs.Prelude.{codes, slice_get, slice_index_or}
 use Rattle.std.specs.Fmt.{digits}
 use Rattle.lo_base.specs.declared.request.Request.{Request}
 use Rattle.lo_base.specs.declared.request.Request.TheVariants.{LoCreate, LoGet}
+use Rattle.lo_machine.specs.Program.{program_of}
 use Rattle.lo_machine.specs.Run.{IsWhole, next_line, end_of, replies_of, schedule_of}
 use Rattle.lo_script.specs.ReplyText.{lines_of}
 use Rattle.lo_script.specs.Script.{ScriptText, script_of, script_with}
@@ -64,22 +67,34 @@ programs = (LoCreate 17000 ∷ LoGet 5 (pos 0) None ∷ []) ∷ replicate 15 []
 order : List ℕ
 order = 1 ∷ 1 ∷ []
 
-no_program : (n s : ℕ) → slice_index_or (replicate n ([] {A = Request})) s [] ≡ []
+no_request : List Request
+no_request = []
+
+none_below_one : 1 ≤ 0 → ⊥
+none_below_one h = omega (arith, h)
+
+no_program : (n s : ℕ) → slice_index_or (replicate n no_request) s [] ≡ []
+unfolding no_request
 no_program zero s = refl
 no_program (suc n) zero = refl
 no_program (suc n) (suc s) = no_program n s
 
+others : (s : ℕ) → program_of programs (suc (suc s)) ≡ []
+unfolding programs no_request
+others s = simp unary_clauses (no_program 15 s)
+
 none_left : (s : ℕ) → 1 ≤ s → next_line programs (end_of programs (schedule_of order)) s ≡ None
-unfolding programs order
-none_left zero positive = cc
+unfolding programs order no_request
+none_left zero positive = absurd (none_below_one positive)
 none_left (suc zero) positive = refl
-none_left (suc (suc s)) positive = ap (λ (program : List Request). slice_get program 0) (no_program 15 s)
+none_left (suc (suc s)) positive =
+    ap (λ (program : List Request). slice_get program ((end_of programs (schedule_of order)).lines_done (suc (suc s)))) (others s)
 
 whole : IsWhole programs (schedule_of order)
 unfolding programs order
 whole = record {
-  sessions = (lit≤ tt, lit≤ tt, tt);
-  playable = (tt, tt, tt);
+  sessions = All-replicate (λ session. 1 ≤ session) 2 1 (lit≤ tt);
+  playable = (refl, (refl, tt));
   complete = none_left;
 }
 
