@@ -1,3 +1,4 @@
+-- Which calls of a double in memory fail.
 use Rattle.std.specs.Prelude.{ℕ, ◌+◌, ◌-◌, ◌^◌, ◌==◌, ◌&&◌, nat_lt, min, Bool, List, [], if◌then◌else◌}
 use Rattle.std.specs.List.{list_any}
 

@@ -1,3 +1,4 @@
+-- A folder in memory, and what each call makes of it.
 use Rattle.std.specs.Prelude.{◌≡◌, ◌≢◌, ◌+◌, ◌&&◌, ◌||◌, nat_lt, nat_le, false, ℕ, Bool, List, [], length, find, Option, Some, is_some, if◌then◌else◌}
 use Rattle.std.specs.Option.{option_map}
 use Rattle.std.specs.Str.{bytes_eq}

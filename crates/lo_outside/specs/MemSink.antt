@@ -1,3 +1,4 @@
+-- A sink in memory, and what a write makes of it.
 use Rattle.std.specs.Prelude.{ℕ, ◌-◌, ◌&&◌, ◌||◌, ◌++◌, nat_lt, nat_le, min, Bool, List, [], length, take, if◌then◌else◌}
 use Rattle.lo_outside.specs.FaultPlan.{Planned, no_faults, handed_over, is_due, after_call}
 

@@ -1,3 +1,4 @@
+//! A sink in memory, for tests and for proofs that speak of what was printed. Only `new` takes memory.
 ghost use Rattle.std.specs.Prelude.{◌≡◌, ◌≤◌, ◌<◌, ◌↔◌, length, IsTrue, IsErr, IfOk};
 ghost use Rattle.lo_outside.specs.Faults.{HasCause};
 ghost use Rattle.lo_outside.specs.MemSink.{empty_sink, write_fails, write_count, after_write, sink_with_plan};

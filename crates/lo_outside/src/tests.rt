@@ -1,3 +1,4 @@
+//! Each public call once, and the host's files and streams, of which no clause says what they hold.
 use crate::{Failed, Files, Gate, HostFiles, HostSink, MemFiles, MemSink, OpenGate, Sink};
 use lo_base::SessionNo;
 use std::io::Read;

@@ -137,56 +137,29 @@ leaves_text words files files' out out' err err' text result made folder count (
       said_front = says.said_front;
     })
 
--- what each status says
-module _ (words : List (List ℕ)) (before after : Outside) where
-  pub done_leaves : (status : Status) → Leaves words before after status → status ≡ Done → IsDone words before after
-  done_leaves status (LeavesDone is done whole) h = done
-  done_leaves status (LeavesUsage is usage whole) h = cc
-  done_leaves status (LeavesInput is input whole) h = cc
-  done_leaves status (LeavesFault is fault) h = cc
-  done_leaves status (LeavesNoMemory is wants whole) h = cc
+-- what a status says
+abbrev pub Says : (words : List (List ℕ)) (before after : Outside) → Status → Type 0
+Says words before after Done = IsDone words before after
+Says words before after Refused = ⊥
+Says words before after Usage = IsUsage words before after
+Says words before after BadInput = IsRefusedInput words before after
+Says words before after Fault = IsFault words before after
+Says words before after NoMemory = IsNoMemory words before after
 
-  pub usage_leaves : (status : Status) → Leaves words before after status → status ≡ Usage → IsUsage words before after
-  usage_leaves status (LeavesDone is done whole) h = cc
-  usage_leaves status (LeavesUsage is usage whole) h = usage
-  usage_leaves status (LeavesInput is input whole) h = cc
-  usage_leaves status (LeavesFault is fault) h = cc
-  usage_leaves status (LeavesNoMemory is wants whole) h = cc
+pub says : (words : List (List ℕ)) (before after : Outside) (status expected : Status) → Leaves words before after status → status ≡ expected → Says words before after expected
+says words before after status expected (LeavesDone is done whole) h = subst (Says words before after) (sym is ∙ h) done
+says words before after status expected (LeavesUsage is usage whole) h = subst (Says words before after) (sym is ∙ h) usage
+says words before after status expected (LeavesInput is input whole) h = subst (Says words before after) (sym is ∙ h) input
+says words before after status expected (LeavesFault is fault) h = subst (Says words before after) (sym is ∙ h) fault
+says words before after status expected (LeavesNoMemory is wants whole) h = subst (Says words before after) (sym is ∙ h) wants
 
-  pub bad_input_leaves : (status : Status) → Leaves words before after status → status ≡ BadInput → IsRefusedInput words before after
-  bad_input_leaves status (LeavesDone is done whole) h = cc
-  bad_input_leaves status (LeavesUsage is usage whole) h = cc
-  bad_input_leaves status (LeavesInput is input whole) h = input
-  bad_input_leaves status (LeavesFault is fault) h = cc
-  bad_input_leaves status (LeavesNoMemory is wants whole) h = cc
-
-  pub fault_leaves : (status : Status) → Leaves words before after status → status ≡ Fault → IsFault words before after
-  fault_leaves status (LeavesDone is done whole) h = cc
-  fault_leaves status (LeavesUsage is usage whole) h = cc
-  fault_leaves status (LeavesInput is input whole) h = cc
-  fault_leaves status (LeavesFault is fault) h = fault
-  fault_leaves status (LeavesNoMemory is wants whole) h = cc
-
-  pub no_memory_leaves : (status : Status) → Leaves words before after status → status ≡ NoMemory → IsNoMemory words before after
-  no_memory_leaves status (LeavesDone is done whole) h = cc
-  no_memory_leaves status (LeavesUsage is usage whole) h = cc
-  no_memory_leaves status (LeavesInput is input whole) h = cc
-  no_memory_leaves status (LeavesFault is fault) h = cc
-  no_memory_leaves status (LeavesNoMemory is wants whole) h = wants
-
-  pub never_refused : (status : Status) → Leaves words before after status → status ≡ Refused → ⊥
-  never_refused status (LeavesDone is done whole) h = cc
-  never_refused status (LeavesUsage is usage whole) h = cc
-  never_refused status (LeavesInput is input whole) h = cc
-  never_refused status (LeavesFault is fault) h = cc
-  never_refused status (LeavesNoMemory is wants whole) h = cc
-
-  pub faultless_leaves : (status : Status) → Leaves words before after status → (status ≡ Fault → ⊥) → IsFaultless before after
-  faultless_leaves status (LeavesDone is done whole) h = whole
-  faultless_leaves status (LeavesUsage is usage whole) h = whole
-  faultless_leaves status (LeavesInput is input whole) h = whole
-  faultless_leaves status (LeavesFault is fault) h = absurd (h is)
-  faultless_leaves status (LeavesNoMemory is wants whole) h = whole
+-- no count changes but by a fault
+pub faultless : (words : List (List ℕ)) (before after : Outside) (status : Status) → Leaves words before after status → (status ≡ Fault → ⊥) → IsFaultless before after
+faultless words before after status (LeavesDone is done whole) h = whole
+faultless words before after status (LeavesUsage is usage whole) h = whole
+faultless words before after status (LeavesInput is input whole) h = whole
+faultless words before after status (LeavesFault is fault) h = absurd (h is)
+faultless words before after status (LeavesNoMemory is wants whole) h = whole
 
 none_is_not_some : {A : Type 0} (a : A) → None ≡ Some a → ⊥
 none_is_not_some a h = cc

@@ -1,3 +1,4 @@
+//! Printing a text or a line whole. Nothing follows a failure but the fault line.
 ghost use Rattle.std.specs.Prelude.{◌≡◌, ◌++◌, IsTrue, OnOk, OnErr};
 ghost use Rattle.lo_base.specs.Appended.{AddsFront};
 ghost use Rattle.lo_outside.specs.Faults.{HasCause};

@@ -1,3 +1,4 @@
+//! What is said on standard error.
 ghost use Rattle.std.specs.Prelude.{◌≡◌, IfOk};
 ghost use Rattle.lo_tool.specs.Texts.{line_about, bad_line_text};
 

@@ -1,3 +1,4 @@
+//! The words of a command. A new command has one variant and one arm of `command_of`.
 ghost use Rattle.std.specs.Prelude.{◌≡◌, map, option_map, string_bytes};
 ghost use Rattle.lo_tool.specs.Command.{command_of, command_meant, script_command, is_file_name};
 
