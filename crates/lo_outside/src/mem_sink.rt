@@ -25,9 +25,15 @@ impl Model for MemSink {
 
     ghost Value = { MemTaken };
 
-    ghost view = { λ s. record { taken = s.taken.items; room = s.room; most = s.most; plan = s.plan } };
+    ghost view = { λ s. record {
+      taken = s.taken.items;
+      room = s.room;
+      most = s.most;
+      plan = s.plan;
+    } };
 
-    ghost invariant = { λ s. (1 ≤ s.most) × (length s.taken.items ≤ s.room) × (s.room ≤ vec_capacity s.taken) };
+    ghost invariant = { λ s.
+        (1 ≤ s.most) × (length s.taken.items ≤ s.room) × (s.room ≤ vec_capacity s.taken) };
 }
 
 impl MemSink {

@@ -26,7 +26,10 @@ impl Model for Place {
     ghost Value = { Held };
 
     ghost view = { λ p. record {
-      named = record { name = p.name.items; file = record { bytes = p.bytes.items; synced = p.synced } };
+      named = record {
+        name = p.name.items;
+        file = record { bytes = p.bytes.items; synced = p.synced };
+      };
       room = p.room;
     } };
 
@@ -79,7 +82,8 @@ impl Place {
     /// Copies the bytes from `at` on to the front of `out`, as many as there are and as fit.
     pub(crate) fn read(&self, at: u64, out: &mut [u8]) -> usize
         ensures count { result ≡ min (length out.old) (length self.now.named.file.bytes - at) }
-        ensures filled { out.new ≡ take result (drop at self.now.named.file.bytes) ++ drop result out.old }
+        ensures filled { out.new ≡ take result (drop at self.now.named.file.bytes)
+            ++ drop result out.old }
     {
         let start = self.bytes.len().min(at as usize);
         copy_front(&self.bytes[start..], out)

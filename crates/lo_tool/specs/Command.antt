@@ -21,7 +21,8 @@ script_command _ = None
 -- the command that the words are, if they are one
 abbrev pub command_of : List (List ℕ) → Option Command
 command_of [] = None
-command_of (name ∷ arguments) = if bytes_eq name (codes "script") then script_command arguments else None
+command_of (name ∷ arguments) =
+    if bytes_eq name (codes "script") then script_command arguments else None
 
 -- the command that the parsed one stands for
 abbrev pub command_meant : Parsed → Command

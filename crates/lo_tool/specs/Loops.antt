@@ -26,7 +26,8 @@ pub record HasFront (old new : FilesState) (name bytes : List ℕ) (size : ℕ) 
   pub count : new.faults ≡ old.faults
 
 -- a front of the order is played, and the rest can be
-pub record HasPlayed (programs : List (List Request)) (order : List ℕ) (play : Play) (i : ℕ) : Type 0 where
+pub record HasPlayed (programs : List (List Request)) (order : List ℕ) (play : Play) (i : ℕ)
+    : Type 0 where
   pub programs_stay : play.programs ≡ programs
   pub schedule : play.schedule ≡ take i order
   pub playable : IsPlayable programs (moment_of play) (drop i order)

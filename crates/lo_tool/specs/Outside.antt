@@ -26,15 +26,21 @@ pub record Outside : Type 0 where
   pub err : SinkState
 
 abbrev pub files_state : {F : Type 0} → FilesGhosts F → F → FilesState
-files_state given files = record { tells = given.tells files; folder = given.folder files; faults = given.faults files }
+files_state given files =
+    record { tells = given.tells files; folder = given.folder files; faults = given.faults files }
 
 abbrev pub sink_state : {O : Type 0} → SinkGhosts O → O → SinkState
-sink_state given sink = record { tells = given.tells sink; taken = given.taken sink; faults = given.faults sink }
+sink_state given sink =
+    record { tells = given.tells sink; taken = given.taken sink; faults = given.faults sink }
 
 -- what the objects at hand tell: the files, standard output and standard error
 abbrev pub outside : {F O : Type 0} → FilesGhosts F → SinkGhosts O → F → O → O → Outside
 outside of_files of_sink files out err =
-    record { files = files_state of_files files; out = sink_state of_sink out; err = sink_state of_sink err }
+    record {
+      files = files_state of_files files;
+      out = sink_state of_sink out;
+      err = sink_state of_sink err;
+    }
 
 -- the last value of a count of faults, at which it stands still
 abbrev pub last_count : ℕ

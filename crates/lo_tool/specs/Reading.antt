@@ -44,11 +44,13 @@ pub record RunsBytes (name bytes : List ℕ) (result : Result (List ℕ) Stop) :
   pub no_fault : IfErr result IsNoFault
 
 -- the same of a file
-pub record RunsFile (files : FilesState) (name : List ℕ) (result : Result (List ℕ) Stop) : Type 0 where
+pub record RunsFile (files : FilesState) (name : List ℕ) (result : Result (List ℕ) Stop)
+    : Type 0 where
   pub ok : IfOk result (PrintsScript files name)
   pub err : IfErr result (IsStop (BadScript files name))
 
 -- the text of a command, or why there is none
-pub record Makes (command : Command) (files : FilesState) (result : Result (List ℕ) Stop) : Type 0 where
+pub record Makes (command : Command) (files : FilesState) (result : Result (List ℕ) Stop)
+    : Type 0 where
   pub ok : IfOk result (IsTextOf command files)
   pub err : IfErr result (IsStop (IsBadInput command files))

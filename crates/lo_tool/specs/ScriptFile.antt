@@ -40,11 +40,15 @@ pub record IsOutsideGrammar (name bytes line : List ℕ) : Type 0 where
 -- Why a file is no script that can be run, with the line that says so: it is not there, it is too long, or it is not too long
 -- and its bytes are outside the grammar.
 pub data BadScript (files : FilesState) (name line : List ℕ) : Type 0 where
-  Missing : (IsTrue files.tells → files.folder name ≡ None) → line ≡ line_about name missing → BadScript files name line
-  TooLong :
-      (IsTrue files.tells → most_bytes < length (bytes_of (files.folder name))) → line ≡ line_about name too_long →
+  Missing :
+      (IsTrue files.tells → files.folder name ≡ None) → line ≡ line_about name missing →
       BadScript files name line
-  OutsideGrammar : (bytes : List ℕ) → IsReadWithin files name bytes → IsOutsideGrammar name bytes line → BadScript files name line
+  TooLong :
+      (IsTrue files.tells → most_bytes < length (bytes_of (files.folder name))) →
+      line ≡ line_about name too_long → BadScript files name line
+  OutsideGrammar :
+      (bytes : List ℕ) → IsReadWithin files name bytes → IsOutsideGrammar name bytes line →
+      BadScript files name line
 
 -- a file that tells a script: it is there, not too long and in the grammar
 pub record GoodScript (files : FilesState) (name : List ℕ) : Type 0 where

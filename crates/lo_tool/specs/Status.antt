@@ -67,9 +67,13 @@ pub record PrintedFront (words : List (List ℕ)) (before after : Outside) : Typ
 pub record IsFault (words : List (List ℕ)) (before after : Outside) : Type 0 where
   pub cause : Failing before after
   pub files : FilesStay before.files after.files
-  pub no_output : before.out.faults < last_count → after.out.faults ≤ before.out.faults → TookNothing before.out after.out
+  pub no_output :
+      before.out.faults < last_count → after.out.faults ≤ before.out.faults →
+      TookNothing before.out after.out
   pub output : before.out.faults < after.out.faults → PrintedFront words before after
-  pub said : before.err.faults < last_count → after.err.faults ≤ before.err.faults → Took fault_line before.err after.err
+  pub said :
+      before.err.faults < last_count → after.err.faults ≤ before.err.faults →
+      Took fault_line before.err after.err
   pub said_front : before.err.faults < after.err.faults → SaidFront words before after
 
 -- NoMemory: the words are a command, and nothing was printed
@@ -82,13 +86,19 @@ pub record IsNoMemory (words : List (List ℕ)) (before after : Outside) : Type 
 
 -- all of it: no other status comes, and a fault alone changes a count
 pub data Leaves (words : List (List ℕ)) (before after : Outside) (status : Status) : Type 0 where
-  LeavesDone : status ≡ Done → IsDone words before after → IsFaultless before after → Leaves words before after status
-  LeavesUsage : status ≡ Usage → IsUsage words before after → IsFaultless before after → Leaves words before after status
+  LeavesDone :
+      status ≡ Done → IsDone words before after → IsFaultless before after →
+      Leaves words before after status
+  LeavesUsage :
+      status ≡ Usage → IsUsage words before after → IsFaultless before after →
+      Leaves words before after status
   LeavesInput :
-      status ≡ BadInput → IsRefusedInput words before after → IsFaultless before after → Leaves words before after status
+      status ≡ BadInput → IsRefusedInput words before after → IsFaultless before after →
+      Leaves words before after status
   LeavesFault : status ≡ Fault → IsFault words before after → Leaves words before after status
   LeavesNoMemory :
-      status ≡ NoMemory → IsNoMemory words before after → IsFaultless before after → Leaves words before after status
+      status ≡ NoMemory → IsNoMemory words before after → IsFaultless before after →
+      Leaves words before after status
 
 -- the words are a command, the files tell what they hold, and every file that it needs can be used
 pub record IsRunnable (words : List (List ℕ)) (files : FilesState) : Type 0 where

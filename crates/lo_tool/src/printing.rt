@@ -25,7 +25,8 @@ pub fn print<O: Sink>(text: &[u8], out: &mut O, err: &mut O) -> Status
 
 /// Says on standard error why a command was not done.
 pub fn complain<O: Sink>(err: &mut O, line: &[u8], status: Status) -> Status
-    ensures complains { Complains line.now status (sink_state O.Sink err.old) (sink_state O.Sink err.new) result }
+    ensures complains { Complains line.now status
+        (sink_state O.Sink err.old) (sink_state O.Sink err.new) result }
     ensures tells { O.tells err.new ≡ O.tells err.old }
 {
     match write_whole(err, line) {
@@ -36,8 +37,8 @@ pub fn complain<O: Sink>(err: &mut O, line: &[u8], status: Status) -> Status
 
 /// Says on standard error that something failed, as far as standard error takes it.
 pub fn report_fault<O: Sink>(err: &mut O) -> Status
-    ensures complains { Complains fault_line Status.Fault (sink_state O.Sink err.old) (sink_state O.Sink err.new)
-        result }
+    ensures complains { Complains fault_line Status.Fault
+        (sink_state O.Sink err.old) (sink_state O.Sink err.new) result }
     ensures tells { O.tells err.new ≡ O.tells err.old }
 {
     complain(err, FAULT.as_bytes(), Status::Fault)
@@ -45,8 +46,10 @@ pub fn report_fault<O: Sink>(err: &mut O) -> Status
 
 /// Writes a whole text, by as many calls as the sink asks for.
 pub fn write_whole<O: Sink>(sink: &mut O, text: &[u8]) -> Result<(), Failed>
-    ensures whole { IsTrue (O.tells sink.old) → OnOk result (O.taken sink.new ≡ O.taken sink.old ++ text.now) }
-    ensures front { IsTrue (O.tells sink.old) → OnErr result (AddsFront (O.taken sink.old) (O.taken sink.new) text.now) }
+    ensures whole { IsTrue (O.tells sink.old) →
+        OnOk result (O.taken sink.new ≡ O.taken sink.old ++ text.now) }
+    ensures front { IsTrue (O.tells sink.old) →
+        OnErr result (AddsFront (O.taken sink.old) (O.taken sink.new) text.now) }
     ensures tells { O.tells sink.new ≡ O.tells sink.old }
     ensures cause { HasCause (O.faults sink.old) (O.faults sink.new) result }
 {

@@ -67,10 +67,12 @@ fn read_piece<F: Files>(
     requires more { length bytes.old < size }
     ensures within { IfOk result (λ n. length bytes.new ≤ size) }
     ensures grown { IfOk result (λ n. length bytes.new ≡ length bytes.old + n) }
-    ensures front { IsTrue (F.tells files.old) → IsFront bytes.old (bytes_of (F.folder files.old name.now)) →
+    ensures front { IsTrue (F.tells files.old) →
+        IsFront bytes.old (bytes_of (F.folder files.old name.now)) →
         OnOk result (IsFront bytes.new (bytes_of (F.folder files.old name.now))) }
     ensures end { IsTrue (F.tells files.old) →
-        IfOk result (λ n. n ≡ 0 → length (bytes_of (F.folder files.old name.now)) ≤ length bytes.old) }
+        IfOk result (λ n. n ≡ 0 →
+        length (bytes_of (F.folder files.old name.now)) ≤ length bytes.old) }
     ensures no_input { IfErr result IsNoInput }
     ensures tells { F.tells files.new ≡ F.tells files.old }
     ensures folder { F.folder files.new ≡ F.folder files.old }
