@@ -1,6 +1,6 @@
 //! A folder in memory, for tests and for proofs that speak of files. Only `new` takes memory: every other call uses a place that
 //! was made there.
-ghost use Rattle.std.specs.Prelude.{◌≡◌, ◌-◌, ◌≤◌, ◌++◌, ◌↔◌, ℕ, length, take, drop, min, false, IsTrue, IsErr, IfOk, All};
+ghost use Rattle.std.specs.Prelude.{◌≡◌, ◌-◌, ◌++◌, ◌↔◌, length, take, drop, min, false, IsTrue, IsErr, IfOk, All};
 ghost use Rattle.lo_outside.specs.Files.{size_of, bytes_of};
 ghost use Rattle.lo_outside.specs.Faults.{HasCause};
 ghost use Rattle.lo_outside.specs.Place.{HasRoom};

@@ -1,5 +1,5 @@
 //! The memory for one file of a folder in memory. No call but `new` takes any.
-ghost use Rattle.std.specs.Prelude.{◌≡◌, ◌-◌, ◌≤◌, ◌++◌, ℕ, length, take, drop, min, false, position, IfOk};
+ghost use Rattle.std.specs.Prelude.{◌≡◌, ◌-◌, ◌≤◌, ◌++◌, length, take, drop, min, false, position, IfOk};
 ghost use Rattle.std.specs.Str.{bytes_eq};
 ghost use Rattle.lo_outside.specs.Place.{empty_place, has_name, with_name, with_bytes};
 

@@ -10,11 +10,11 @@ use Rattle.lo_tool.specs.declared.run.Status.TheVariants.{Done, Refused, Usage, 
 use Rattle.lo_tool.specs.declared.stop.Stop.{Stop}
 use Rattle.lo_tool.specs.declared.stop.Stop.TheVariants.{BadInput as Input, Fault as Failed_, NoMemory as OutOfMemory}
 use Rattle.lo_tool.specs.Command.{Command, RunScript, command_of}
-use Rattle.lo_tool.specs.Commands.{IsTextOf, IsBadInput, HasInput}
-use Rattle.lo_tool.specs.Outside.{Outside, FilesState, SinkState, Took, TookFront, TookNothing, FilesStay, IsFaultless, Failing, FilesFailed, OutFailed, ErrFailed, last_count, IsRead, content}
+use Rattle.lo_tool.specs.Commands.{IsBadInput, HasInput}
+use Rattle.lo_tool.specs.Outside.{Outside, FilesState, SinkState, Took, TookFront, TookNothing, FilesStay, IsFaultless, Failing, FilesFailed, OutFailed, ErrFailed, last_count, content}
 use Rattle.lo_tool.specs.Printing.{Complains, Said, Failed, Prints, Printed, Lost}
 use Rattle.lo_tool.specs.Reading.{IsStop, RunsBytes, RunsFile}
-use Rattle.lo_tool.specs.ScriptFile.{RunsTo, PrintsScript, IsReadWithin, IsOutsideGrammar, BadScript, Missing, TooLong, OutsideGrammar, GoodScript, most_bytes}
+use Rattle.lo_tool.specs.ScriptFile.{RunsTo, PrintsScript, IsReadWithin, IsOutsideGrammar, BadScript, Missing, TooLong, OutsideGrammar, GoodScript}
 use Rattle.lo_tool.specs.Status.{IsText, IsInputLine, IsDone, IsUsage, IsRefusedInput, IsFault, IsNoMemory, IsErrorLine, FaultLine, UsageLine, InputLine, SaidFront, IsRunnable, EndsWell, Completed, WantsMemory, Leaves, LeavesDone, LeavesUsage, LeavesInput, LeavesFault, LeavesNoMemory}
 use Rattle.lo_tool.specs.Texts.{usage_line, fault_line}
 

@@ -5,7 +5,7 @@ use Rattle.lo_tool.specs.declared.run.Status.{Status}
 use Rattle.lo_tool.specs.declared.run.Status.TheVariants.{Done, Usage, BadInput, Fault, NoMemory}
 use Rattle.lo_tool.specs.Command.{Command, command_of}
 use Rattle.lo_tool.specs.Commands.{IsTextOf, IsBadInput, HasInput}
-use Rattle.lo_tool.specs.Outside.{Outside, SinkState, FilesState, Took, TookFront, TookNothing, FilesStay, IsFaultless, Failing, last_count}
+use Rattle.lo_tool.specs.Outside.{Outside, FilesState, Took, TookFront, TookNothing, FilesStay, IsFaultless, Failing, last_count}
 use Rattle.lo_tool.specs.Texts.{usage_line, fault_line}
 
 -- the words are a command, and the text is what it prints

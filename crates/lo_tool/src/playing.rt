@@ -1,5 +1,5 @@
 //! From the bytes of a script to the text of its run.
-ghost use Rattle.std.specs.Prelude.{◌≡◌, ◌++◌, IfOk, OnOk};
+ghost use Rattle.std.specs.Prelude.{◌≡◌, IfOk};
 ghost use Rattle.lo_machine.specs.Run.{replies_of, schedule_of, IsOrderOf, IsWhole};
 ghost use Rattle.lo_script.specs.ReplyText.{lines_of};
 ghost use Rattle.lo_tool.specs.Reading.{RunsBytes};
