@@ -1,3 +1,3 @@
 mod Examples
-mod Named
-mod Putting
+mod FilesByName
+mod SettingBytes

@@ -1,3 +1,4 @@
+-- Which calls of a double in memory fail.
 use Rattle.std.specs.Prelude.{ℕ, ◌+◌, ◌-◌, ◌^◌, ◌==◌, ◌&&◌, nat_lt, min, Bool, List, [], if◌then◌else◌}
 use Rattle.std.specs.List.{list_any}
 
@@ -27,4 +28,8 @@ is_due plan = nat_lt plan.calls (2 ^ 64 - 1) && list_any (λ n. n == plan.calls 
 -- after one more call, which failed or not
 abbrev pub after_call : Bool → Planned → Planned
 after_call failed plan =
-    record { numbers = plan.numbers; calls = one_more plan.calls; faults = (if failed then one_more plan.faults else plan.faults) }
+    record {
+      numbers = plan.numbers;
+      calls = one_more plan.calls;
+      faults = (if failed then one_more plan.faults else plan.faults);
+    }

@@ -1,3 +1,4 @@
+-- When a call may fail.
 use Rattle.std.specs.Prelude.{◌≡◌, ◌+◌, ◌-◌, ◌^◌, ◌≤◌, ℕ, min, Result, OnOk, OnErr}
 use Rattle.lo_outside.specs.declared.files.Failed.{Failed}
 

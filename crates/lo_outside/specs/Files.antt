@@ -1,3 +1,4 @@
+-- What a folder holds under a name.
 use Rattle.std.specs.Prelude.{ℕ, Bool, List, [], Option, Some, None, length}
 
 -- a file: its bytes, and whether they are known to be on the disk

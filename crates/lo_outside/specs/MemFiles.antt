@@ -1,3 +1,4 @@
+-- A folder in memory, and what each call makes of it.
 use Rattle.std.specs.Prelude.{◌≡◌, ◌≢◌, ◌+◌, ◌&&◌, ◌||◌, nat_lt, nat_le, false, ℕ, Bool, List, [], length, find, Option, Some, is_some, if◌then◌else◌}
 use Rattle.std.specs.Option.{option_map}
 use Rattle.std.specs.Str.{bytes_eq}
@@ -38,8 +39,11 @@ can_put folder name bytes =
 -- a file's bytes are set, and are not synced. No other file changes
 pub record Puts (old new : MemFolder) (name bytes : List ℕ) : Type 0 where
   pub there : file_named name new.files ≡ Some (record { bytes = bytes; synced = false })
-  pub others : (other : List ℕ) → other ≢ name → file_named other new.files ≡ file_named other old.files
-  pub count : length new.files ≡ (if is_some (file_named name old.files) then length old.files else length old.files + 1)
+  pub others :
+      (other : List ℕ) → other ≢ name → file_named other new.files ≡ file_named other old.files
+  pub count :
+      length new.files
+      ≡ (if is_some (file_named name old.files) then length old.files else length old.files + 1)
   pub places : new.places ≡ old.places
   pub room : new.room ≡ old.room
   pub plan : new.plan ≡ old.plan
@@ -47,8 +51,18 @@ pub record Puts (old new : MemFolder) (name bytes : List ℕ) : Type 0 where
 -- after one more call that leaves the files, and fails only by the plan
 abbrev pub after_look : MemFolder → MemFolder
 after_look old =
-    record { files = old.files; places = old.places; room = old.room; plan = after_call (is_due old.plan) old.plan }
+    record {
+      files = old.files;
+      places = old.places;
+      room = old.room;
+      plan = after_call (is_due old.plan) old.plan;
+    }
 
 abbrev pub with_plan : List ℕ → MemFolder → MemFolder
 with_plan calls old =
-    record { files = old.files; places = old.places; room = old.room; plan = handed_over calls old.plan }
+    record {
+      files = old.files;
+      places = old.places;
+      room = old.room;
+      plan = handed_over calls old.plan;
+    }

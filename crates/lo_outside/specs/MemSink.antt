@@ -1,3 +1,4 @@
+-- A sink in memory, and what a write makes of it.
 use Rattle.std.specs.Prelude.{ℕ, ◌-◌, ◌&&◌, ◌||◌, ◌++◌, nat_lt, nat_le, min, Bool, List, [], length, take, if◌then◌else◌}
 use Rattle.lo_outside.specs.FaultPlan.{Planned, no_faults, handed_over, is_due, after_call}
 
@@ -28,7 +29,9 @@ write_count piece sink = min (length piece) (min sink.most (sink.room - length s
 abbrev pub after_write : List ℕ → MemTaken → MemTaken
 after_write piece sink =
     record {
-      taken = (if write_fails piece sink then sink.taken else sink.taken ++ take (write_count piece sink) piece);
+      taken =
+          (if write_fails piece sink then sink.taken
+          else sink.taken ++ take (write_count piece sink) piece);
       room = sink.room;
       most = sink.most;
       plan = after_call (write_fails piece sink) sink.plan;
@@ -36,4 +39,9 @@ after_write piece sink =
 
 abbrev pub sink_with_plan : List ℕ → MemTaken → MemTaken
 sink_with_plan calls sink =
-    record { taken = sink.taken; room = sink.room; most = sink.most; plan = handed_over calls sink.plan }
+    record {
+      taken = sink.taken;
+      room = sink.room;
+      most = sink.most;
+      plan = handed_over calls sink.plan;
+    }

@@ -1,3 +1,4 @@
+-- The memory for one file of a folder in memory.
 use Rattle.std.specs.Prelude.{◌≡◌, ◌≤◌, ◌+◌, ℕ, List, [], Bool, false, All, length, Vec, vec_capacity}
 use Rattle.std.specs.declared.alloc.Global.{Global}
 use Rattle.std.specs.Str.{bytes_eq}
@@ -19,15 +20,22 @@ abbrev pub has_name : List ℕ → Held → Bool
 has_name name place = bytes_eq place.named.name name
 
 abbrev pub empty_place : ℕ → Held
-empty_place room = record { named = record { name = []; file = record { bytes = []; synced = false } }; room = room }
+empty_place room = record {
+  named = record { name = []; file = record { bytes = []; synced = false } };
+  room = room;
+}
 
 abbrev pub with_name : List ℕ → Held → Held
-with_name name place = record { named = record { name = name; file = place.named.file }; room = place.room }
+with_name name place =
+    record { named = record { name = name; file = place.named.file }; room = place.room }
 
 -- the bytes are set, and are not synced
 abbrev pub with_bytes : List ℕ → Held → Held
 with_bytes bytes place =
-    record { named = record { name = place.named.name; file = record { bytes = bytes; synced = false } }; room = place.room }
+    record {
+      named = record { name = place.named.name; file = record { bytes = bytes; synced = false } };
+      room = place.room;
+    }
 
 -- a place with that room
 abbrev pub HasRoom : ℕ → Held → Type 0

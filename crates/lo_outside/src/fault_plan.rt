@@ -1,3 +1,4 @@
+//! Which calls of a double in memory fail, by their numbers.
 ghost use Rattle.std.specs.Prelude.{◌≡◌, ◌≤◌, ◌||◌, ◌↔◌, IsTrue, IsErr};
 ghost use Rattle.lo_outside.specs.FaultPlan.{no_faults, handed_over, is_due, after_call};
 

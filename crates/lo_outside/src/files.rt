@@ -32,9 +32,11 @@ pub trait Files {
     fn read(&mut self, name: &str, at: u64, out: &mut [u8]) -> Result<usize, Failed>
         ensures within { IfOk result (λ n. n ≤ length out.old) }
         ensures count { IsTrue (tells self.old) →
-            IfOk result (λ n. n ≡ min (length out.old) (length (bytes_of (folder self.old name.now)) - at)) }
+            IfOk result (λ n.
+            n ≡ min (length out.old) (length (bytes_of (folder self.old name.now)) - at)) }
         ensures filled { IsTrue (tells self.old) →
-            IfOk result (λ n. out.new ≡ take n (drop at (bytes_of (folder self.old name.now))) ++ drop n out.old) }
+            IfOk result (λ n. out.new
+            ≡ take n (drop at (bytes_of (folder self.old name.now))) ++ drop n out.old) }
         ensures tells { tells self.new ≡ tells self.old }
         ensures folder { folder self.new ≡ folder self.old }
         ensures cause { HasCause (faults self.old) (faults self.new) result };

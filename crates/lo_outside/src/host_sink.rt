@@ -1,3 +1,4 @@
+//! The streams of the system. This is the trusted edge: nothing is claimed of what becomes of the bytes.
 ghost use Rattle.std.specs.Prelude.{◌≡◌};
 
 use crate::files::Failed;
@@ -9,7 +10,9 @@ use std::marker::Model;
 /// Standard output or standard error, as one type.
 #[derive(Drop)]
 pub enum Standard {
+    /// Standard output.
     Output(Stdout),
+    /// Standard error.
     Error(Stderr),
 }
 
@@ -29,7 +32,7 @@ impl Write for Standard {
     }
 }
 
-/// A stream of the system as a sink. Nothing is claimed of what becomes of the bytes.
+/// A stream of the system as a sink. A stream that takes nothing of a piece with bytes has failed.
 #[derive(Drop)]
 pub struct HostSink<W: Write> {
     stream: W,

@@ -1,4 +1,6 @@
-ghost use Rattle.std.specs.Prelude.{◌≡◌, ◌-◌, ◌≤◌, ◌++◌, ◌↔◌, ℕ, length, take, drop, min, false, IsTrue, IsErr, IfOk, All};
+//! A folder in memory, for tests and for proofs that speak of files. Only `new` takes memory: every other call uses a place that
+//! was made there.
+ghost use Rattle.std.specs.Prelude.{◌≡◌, ◌-◌, ◌++◌, ◌↔◌, length, take, drop, min, false, IsTrue, IsErr, IfOk, All};
 ghost use Rattle.lo_outside.specs.Files.{size_of, bytes_of};
 ghost use Rattle.lo_outside.specs.Faults.{HasCause};
 ghost use Rattle.lo_outside.specs.Place.{HasRoom};
@@ -121,10 +123,11 @@ impl Files for MemFiles {
 
     fn read(&mut self, name: &str, at: u64, out: &mut [u8]) -> Result<usize, Failed>
         ensures failed { IsErr result ↔ IsTrue (is_due self.old.plan) }
-        ensures count { IfOk result (λ n.
-            n ≡ min (length out.old) (length (bytes_of (file_named name.now self.old.files)) - at)) }
+        ensures count { IfOk result (λ n. n
+            ≡ min (length out.old) (length (bytes_of (file_named name.now self.old.files)) - at)) }
         ensures filled { IfOk result (λ n.
-            out.new ≡ take n (drop at (bytes_of (file_named name.now self.old.files))) ++ drop n out.old) }
+            out.new ≡ take n (drop at (bytes_of (file_named name.now self.old.files)))
+            ++ drop n out.old) }
         ensures counted { self.new ≡ after_look self.old }
         ensures cause { HasCause self.old.plan.faults self.new.plan.faults result }
     {

@@ -1,3 +1,4 @@
+//! A sink in memory, for tests and for proofs that speak of what was printed. Only `new` takes memory.
 ghost use Rattle.std.specs.Prelude.{◌≡◌, ◌≤◌, ◌<◌, ◌↔◌, length, IsTrue, IsErr, IfOk};
 ghost use Rattle.lo_outside.specs.Faults.{HasCause};
 ghost use Rattle.lo_outside.specs.MemSink.{empty_sink, write_fails, write_count, after_write, sink_with_plan};
@@ -24,9 +25,15 @@ impl Model for MemSink {
 
     ghost Value = { MemTaken };
 
-    ghost view = { λ s. record { taken = s.taken.items; room = s.room; most = s.most; plan = s.plan } };
+    ghost view = { λ s. record {
+      taken = s.taken.items;
+      room = s.room;
+      most = s.most;
+      plan = s.plan;
+    } };
 
-    ghost invariant = { λ s. (1 ≤ s.most) × (length s.taken.items ≤ s.room) × (s.room ≤ vec_capacity s.taken) };
+    ghost invariant = { λ s.
+        (1 ≤ s.most) × (length s.taken.items ≤ s.room) × (s.room ≤ vec_capacity s.taken) };
 }
 
 impl MemSink {

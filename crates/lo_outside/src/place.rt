@@ -1,4 +1,5 @@
-ghost use Rattle.std.specs.Prelude.{◌≡◌, ◌-◌, ◌≤◌, ◌++◌, ℕ, length, take, drop, min, false, position, IfOk};
+//! The memory for one file of a folder in memory. No call but `new` takes any.
+ghost use Rattle.std.specs.Prelude.{◌≡◌, ◌-◌, ◌≤◌, ◌++◌, length, take, drop, min, false, position, IfOk};
 ghost use Rattle.std.specs.Str.{bytes_eq};
 ghost use Rattle.lo_outside.specs.Place.{empty_place, has_name, with_name, with_bytes};
 
@@ -25,7 +26,10 @@ impl Model for Place {
     ghost Value = { Held };
 
     ghost view = { λ p. record {
-      named = record { name = p.name.items; file = record { bytes = p.bytes.items; synced = p.synced } };
+      named = record {
+        name = p.name.items;
+        file = record { bytes = p.bytes.items; synced = p.synced };
+      };
       room = p.room;
     } };
 
@@ -78,7 +82,8 @@ impl Place {
     /// Copies the bytes from `at` on to the front of `out`, as many as there are and as fit.
     pub(crate) fn read(&self, at: u64, out: &mut [u8]) -> usize
         ensures count { result ≡ min (length out.old) (length self.now.named.file.bytes - at) }
-        ensures filled { out.new ≡ take result (drop at self.now.named.file.bytes) ++ drop result out.old }
+        ensures filled { out.new ≡ take result (drop at self.now.named.file.bytes)
+            ++ drop result out.old }
     {
         let start = self.bytes.len().min(at as usize);
         copy_front(&self.bytes[start..], out)

@@ -1,3 +1,4 @@
+//! Each public call once, and the host's files and streams, of which no clause says what they hold.
 use crate::{Failed, Files, Gate, HostFiles, HostSink, MemFiles, MemSink, OpenGate, Sink};
 use lo_base::SessionNo;
 use std::io::Read;
@@ -61,23 +62,41 @@ fn open_gate_holds_nobody(rt: HostRuntime) {
 
 #[test]
 fn host_files_are_read(rt: HostRuntime) -> Result<(), Fail> {
+    let alloc = rt.alloc();
     let temporary = env::temp_dir(&rt)?;
     let id = process::id(rt.process());
-    let folder = format!(in rt.alloc(); "{}/lo_outside.{id}", temporary.display())?;
-    let script = format!(in rt.alloc(); "{folder}/script")?;
+    let folder = format!(in alloc; "{}/lo_outside.{id}", temporary.display())?;
+    let script = format!(in alloc; "{folder}/script")?;
+    let missing = format!(in alloc; "{folder}/none")?;
+    let below = format!(in alloc; "{folder}/script/none")?;
     fs::create_dir(&rt, folder.as_str())?;
     fs::write(&rt, script.as_str(), "A: lo_create 5\n")?;
     let mut files = HostFiles::new(&rt);
     let mut out = [0; 9];
     let size = files.size(script.as_str());
-    let count = files.read(script.as_str(), 3, &mut out);
-    let of_folder = files.read(folder.as_str(), 0, &mut [0; 9]);
+    let first = (files.read(script.as_str(), 3, &mut out), out);
+    let of_missing = (files.read(missing.as_str(), 0, &mut out), out);
+    let again = (files.read(script.as_str(), 13, &mut out), out);
+    let at_the_end = (files.read(script.as_str(), 15, &mut out), out);
+    let of_folder = files.read(folder.as_str(), 0, &mut out);
+    let below_a_file = (
+        files.size(below.as_str()),
+        files.read(below.as_str(), 0, &mut out),
+    );
+    let anew = files.read(script.as_str(), 0, &mut out);
     fs::remove_dir_all(&rt, folder.as_str())?;
+    let removed = files.size(script.as_str());
+    let read_after = files.read(script.as_str(), 0, &mut out);
     assert_eq!(rt; size, Ok(Some(15)));
-    assert_eq!(rt; count, Ok(9));
-    assert_eq!(rt; out, *b"lo_create");
+    assert_eq!(rt; first, (Ok(9), *b"lo_create"));
+    assert_eq!(rt; of_missing, (Ok(0), *b"lo_create"));
+    assert_eq!(rt; again, (Ok(2), *b"5\n_create"));
+    assert_eq!(rt; at_the_end, (Ok(0), *b"5\n_create"));
     assert_eq!(rt; of_folder, Err(Failed));
-    assert_eq!(rt; files.size(script.as_str()), Ok(None));
+    assert_eq!(rt; below_a_file, (Err(Failed), Err(Failed)));
+    assert_eq!(rt; anew, Ok(9));
+    assert_eq!(rt; removed, Ok(None));
+    assert_eq!(rt; read_after, Ok(0));
     Ok(())
 }
 

@@ -1,2 +1,3 @@
-pub mod Leaving
-pub mod Pieces
+mod Examples
+pub mod PiecesOfText
+pub mod Statuses

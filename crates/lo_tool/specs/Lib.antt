@@ -1,8 +1,9 @@
+pub mod Command
+pub mod Commands
 pub mod Loops
-pub mod Outcome
 pub mod Outside
 pub mod Printing
 pub mod Reading
+pub mod ScriptFile
 pub mod Status
 pub mod Texts
-pub mod Words

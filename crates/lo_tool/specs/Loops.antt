@@ -1,32 +1,33 @@
-use Rattle.std.specs.Prelude.{◌≡◌, ◌≤◌, ◌++◌, ℕ, Bool, List, Option, IsTrue, take, drop, length}
+-- What the loops that read and write keep.
+use Rattle.std.specs.Prelude.{◌≡◌, ◌≤◌, ◌++◌, ℕ, List, IsTrue, take, drop, length}
 use Rattle.lo_base.specs.declared.request.Request.{Request}
 use Rattle.lo_machine.specs.Replay.{Play, moment_of}
 use Rattle.lo_machine.specs.Run.{IsPlayable}
-use Rattle.lo_outside.specs.Files.{File, bytes_of}
-
--- What the loops that read and write keep.
+use Rattle.lo_outside.specs.Files.{bytes_of}
+use Rattle.lo_tool.specs.Outside.{FilesState, SinkState}
 
 -- some bytes that a file begins with
 abbrev pub IsFront : (bytes file : List ℕ) → Type 0
 IsFront bytes file = bytes ≡ take (length bytes) file
 
 -- so many bytes of the text are written, and nothing has failed
-pub record HasWritten {O : Type 0} (tells : O → Bool) (taken : O → List ℕ) (faults : O → ℕ) (old new : O) (text : List ℕ) (at : ℕ) : Type 0 where
+pub record HasWritten (old new : SinkState) (text : List ℕ) (at : ℕ) : Type 0 where
   pub within : at ≤ length text
-  pub took : IsTrue (tells old) → taken new ≡ taken old ++ take at text
-  pub same : tells new ≡ tells old
-  pub count : faults new ≡ faults old
+  pub took : IsTrue old.tells → new.taken ≡ old.taken ++ take at text
+  pub same : new.tells ≡ old.tells
+  pub count : new.faults ≡ old.faults
 
 -- a front of the file is read, and nothing has failed
-pub record HasFront {F : Type 0} (tells : F → Bool) (folder : F → List ℕ → Option File) (faults : F → ℕ) (old new : F) (name bytes : List ℕ) (size : ℕ) : Type 0 where
+pub record HasFront (old new : FilesState) (name bytes : List ℕ) (size : ℕ) : Type 0 where
   pub within : length bytes ≤ size
-  pub told : IsTrue (tells old) → IsFront bytes (bytes_of (folder old name))
-  pub same : tells new ≡ tells old
-  pub files : folder new ≡ folder old
-  pub count : faults new ≡ faults old
+  pub told : IsTrue old.tells → IsFront bytes (bytes_of (old.folder name))
+  pub same : new.tells ≡ old.tells
+  pub files : new.folder ≡ old.folder
+  pub count : new.faults ≡ old.faults
 
 -- a front of the order is played, and the rest can be
-pub record HasPlayed (programs : List (List Request)) (order : List ℕ) (play : Play) (i : ℕ) : Type 0 where
+pub record HasPlayed (programs : List (List Request)) (order : List ℕ) (play : Play) (i : ℕ)
+    : Type 0 where
   pub programs_stay : play.programs ≡ programs
   pub schedule : play.schedule ≡ take i order
   pub playable : IsPlayable programs (moment_of play) (drop i order)

@@ -1,9 +1,12 @@
-use Rattle.std.specs.Prelude.{◌≡◌, ◌≤◌, ℕ, List, Result, IfOk, IfErr, OnOk, length}
+-- Why a command comes to no text, and what that says of its files.
+use Rattle.std.specs.Prelude.{◌≡◌, ℕ, List, Result, IfOk, IfErr, OnOk}
 use Rattle.lo_outside.specs.Faults.{Rose}
 use Rattle.lo_tool.specs.declared.stop.Stop.{Stop}
 use Rattle.lo_tool.specs.declared.stop.Stop.TheVariants.{BadInput, Fault, NoMemory}
-use Rattle.lo_tool.specs.Outside.{FilesState, IsRead}
-use Rattle.lo_tool.specs.Outcome.{BadFile, RunsTo, PrintsScript, IsOutside, most_bytes}
+use Rattle.lo_tool.specs.Command.{Command}
+use Rattle.lo_tool.specs.Commands.{IsTextOf, IsBadInput}
+use Rattle.lo_tool.specs.Outside.{FilesState}
+use Rattle.lo_tool.specs.ScriptFile.{BadScript, RunsTo, PrintsScript, IsOutsideGrammar}
 
 -- what a stop says of a file
 abbrev pub IsStop : (bad : List ℕ → Type 0) → Stop → Type 0
@@ -34,18 +37,20 @@ IsNoInput (BadInput line) = ⊥
 IsNoInput Fault = Unit {0}
 IsNoInput NoMemory = Unit {0}
 
--- the bytes of a file that is there and not too long
-pub record IsReadWithin (files : FilesState) (name bytes : List ℕ) : Type 0 where
-  pub read : IsRead files name bytes
-  pub within : length bytes ≤ most_bytes
-
--- the text of a run of bytes, or why there is none: they are outside the grammar, or no memory
+-- the text of the run of bytes, or why there is none: they are outside the grammar, or no memory
 pub record RunsBytes (name bytes : List ℕ) (result : Result (List ℕ) Stop) : Type 0 where
   pub ok : IfOk result (RunsTo bytes)
-  pub err : IfErr result (IsStop (IsOutside name bytes))
+  pub err : IfErr result (IsStop (IsOutsideGrammar name bytes))
   pub no_fault : IfErr result IsNoFault
 
 -- the same of a file
-pub record RunsFile (files : FilesState) (name : List ℕ) (result : Result (List ℕ) Stop) : Type 0 where
+pub record RunsFile (files : FilesState) (name : List ℕ) (result : Result (List ℕ) Stop)
+    : Type 0 where
   pub ok : IfOk result (PrintsScript files name)
-  pub err : IfErr result (IsStop (BadFile files name))
+  pub err : IfErr result (IsStop (BadScript files name))
+
+-- the text of a command, or why there is none
+pub record Makes (command : Command) (files : FilesState) (result : Result (List ℕ) Stop)
+    : Type 0 where
+  pub ok : IfOk result (IsTextOf command files)
+  pub err : IfErr result (IsStop (IsBadInput command files))

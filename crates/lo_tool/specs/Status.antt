@@ -1,103 +1,113 @@
-use Rattle.std.specs.Prelude.{◌≡◌, ◌≢◌, ℕ, ◌<◌, ◌≤◌, ◌⊎◌, List, length, Some, None, IsTrue}
-use Rattle.lo_script.specs.Script.{ScriptText, script_of}
-use Rattle.lo_outside.specs.Faults.{Rose}
+-- What `run` leaves, status by status: what the words and the files were, what became of the files, and what standard output and
+-- standard error took. `before` and `after` are all that is outside, at the call and at its return.
+use Rattle.std.specs.Prelude.{◌≡◌, ℕ, ◌<◌, ◌≤◌, List, Some, None, IsTrue}
 use Rattle.lo_tool.specs.declared.run.Status.{Status}
-use Rattle.lo_tool.specs.declared.run.Status.TheVariants.{Done, Refused, Usage, BadInput, Fault, NoMemory}
-use Rattle.lo_tool.specs.Outside.{FilesState, SinkState, Took, TookFront, TookNothing, last_count, content}
-use Rattle.lo_tool.specs.Outcome.{PrintsRun, IsBadInput, most_bytes}
+use Rattle.lo_tool.specs.declared.run.Status.TheVariants.{Done, Usage, BadInput, Fault, NoMemory}
+use Rattle.lo_tool.specs.Command.{Command, command_of}
+use Rattle.lo_tool.specs.Commands.{IsTextOf, IsBadInput, HasInput}
+use Rattle.lo_tool.specs.Outside.{Outside, FilesState, Took, TookFront, TookNothing, FilesStay, IsFaultless, Failing, last_count}
 use Rattle.lo_tool.specs.Texts.{usage_line, fault_line}
-use Rattle.lo_tool.specs.Words.{script_file}
 
--- What `run` leaves, status by status: what the words and files were, and what the two sinks took. `out` and `err` are the
--- sinks before and `out'` and `err'` after.
+-- the words are a command, and the text is what it prints
+pub record IsText (words : List (List ℕ)) (files : FilesState) (text : List ℕ) : Type 0 where
+  pub command : Command
+  pub is : command_of words ≡ Some command
+  pub made : IsTextOf command files text
 
--- Done: `out` took the text of the run
-pub record IsDone (words : List (List ℕ)) (files : FilesState) (out out' err err' : SinkState) : Type 0 where
+-- the words are a command, and the line says why a file of it cannot be used
+pub record IsInputLine (words : List (List ℕ)) (files : FilesState) (line : List ℕ) : Type 0 where
+  pub command : Command
+  pub is : command_of words ≡ Some command
+  pub bad : IsBadInput command files line
+
+-- Done: standard output took the text of the command
+pub record IsDone (words : List (List ℕ)) (before after : Outside) : Type 0 where
   pub text : List ℕ
-  pub run : PrintsRun words files text
-  pub printed : Took text out out'
-  pub no_error : TookNothing err err'
+  pub made : IsText words before.files text
+  pub files : FilesStay before.files after.files
+  pub printed : Took text before.out after.out
+  pub no_error : TookNothing before.err after.err
 
 -- Usage: the words are no command
-pub record IsUsage (words : List (List ℕ)) (out out' err err' : SinkState) : Type 0 where
-  pub no_command : script_file words ≡ None
-  pub no_output : TookNothing out out'
-  pub said : Took usage_line err err'
+pub record IsUsage (words : List (List ℕ)) (before after : Outside) : Type 0 where
+  pub no_command : command_of words ≡ None
+  pub files : FilesStay before.files after.files
+  pub no_output : TookNothing before.out after.out
+  pub said : Took usage_line before.err after.err
 
--- BadInput: the file is not there, too long or outside the grammar
-pub record IsRefusedInput (words : List (List ℕ)) (files : FilesState) (out out' err err' : SinkState) : Type 0 where
+-- BadInput: a file of the command cannot be used
+pub record IsRefusedInput (words : List (List ℕ)) (before after : Outside) : Type 0 where
   pub line : List ℕ
-  pub bad : IsBadInput words files line
-  pub no_output : TookNothing out out'
-  pub said : Took line err err'
+  pub bad : IsInputLine words before.files line
+  pub files : FilesStay before.files after.files
+  pub no_output : TookNothing before.out after.out
+  pub said : Took line before.err after.err
 
--- a line that can be said on standard error: that of a fault, or the one other line that the words and the file ask for
+-- a line that can be said on standard error: that of a fault, or the one other line that the words and the files ask for
 pub data IsErrorLine (words : List (List ℕ)) (files : FilesState) (line : List ℕ) : Type 0 where
   FaultLine : line ≡ fault_line → IsErrorLine words files line
-  UsageLine : script_file words ≡ None → line ≡ usage_line → IsErrorLine words files line
-  InputLine : IsBadInput words files line → IsErrorLine words files line
+  UsageLine : command_of words ≡ None → line ≡ usage_line → IsErrorLine words files line
+  InputLine : IsInputLine words files line → IsErrorLine words files line
 
 -- a front of such a line was said
-pub record SaidFront (words : List (List ℕ)) (files : FilesState) (err err' : SinkState) : Type 0 where
+pub record SaidFront (words : List (List ℕ)) (before after : Outside) : Type 0 where
   pub line : List ℕ
-  pub kind : IsErrorLine words files line
-  pub said : TookFront line err err'
+  pub kind : IsErrorLine words before.files line
+  pub said : TookFront line before.err after.err
 
--- a front of the run's text was printed
-pub record PrintedFront (words : List (List ℕ)) (files : FilesState) (out out' : SinkState) : Type 0 where
+-- a front of the command's text was printed
+pub record PrintedFront (words : List (List ℕ)) (before after : Outside) : Type 0 where
   pub text : List ℕ
-  pub run : PrintsRun words files text
-  pub printed : TookFront text out out'
+  pub made : IsText words before.files text
+  pub printed : TookFront text before.out after.out
 
--- Fault: a count of faults rose. Where that of `out` is greater, a front of the run's text was printed, else nothing. Where
--- that of `err` is not greater, the fault line was said whole, else a front of one line. The last value of a count, at
--- which it stands still, is left out.
-pub record IsFault (words : List (List ℕ)) (files files' : FilesState) (out out' err err' : SinkState) : Type 0 where
-  pub cause : Rose files.faults files'.faults ⊎ (Rose out.faults out'.faults ⊎ Rose err.faults err'.faults)
-  pub no_output : out.faults < last_count → out'.faults ≤ out.faults → TookNothing out out'
-  pub output : out.faults < out'.faults → PrintedFront words files out out'
-  pub said : err.faults < last_count → err'.faults ≤ err.faults → Took fault_line err err'
-  pub said_front : err.faults < err'.faults → SaidFront words files err err'
+-- Fault: a count of faults rose. Where that of standard output is greater, a front of the command's text was printed, else
+-- nothing. Where that of standard error is not greater, the fault line was said whole, else a front of one line. The last value
+-- of a count, at which it stands still, is left out.
+pub record IsFault (words : List (List ℕ)) (before after : Outside) : Type 0 where
+  pub cause : Failing before after
+  pub files : FilesStay before.files after.files
+  pub no_output :
+      before.out.faults < last_count → after.out.faults ≤ before.out.faults →
+      TookNothing before.out after.out
+  pub output : before.out.faults < after.out.faults → PrintedFront words before after
+  pub said :
+      before.err.faults < last_count → after.err.faults ≤ before.err.faults →
+      Took fault_line before.err after.err
+  pub said_front : before.err.faults < after.err.faults → SaidFront words before after
 
--- NoMemory: nothing was printed
-pub record IsNoMemory (out out' err err' : SinkState) : Type 0 where
-  pub no_output : TookNothing out out'
-  pub no_error : TookNothing err err'
+-- NoMemory: the words are a command, and nothing was printed
+pub record IsNoMemory (words : List (List ℕ)) (before after : Outside) : Type 0 where
+  pub command : Command
+  pub is : command_of words ≡ Some command
+  pub files : FilesStay before.files after.files
+  pub no_output : TookNothing before.out after.out
+  pub no_error : TookNothing before.err after.err
 
--- no count of faults changed
-pub record IsFaultless (files files' : FilesState) (out out' err err' : SinkState) : Type 0 where
-  pub files_count : files'.faults ≡ files.faults
-  pub out_count : out'.faults ≡ out.faults
-  pub err_count : err'.faults ≡ err.faults
+-- all of it: no other status comes, and a fault alone changes a count
+pub data Leaves (words : List (List ℕ)) (before after : Outside) (status : Status) : Type 0 where
+  LeavesDone :
+      status ≡ Done → IsDone words before after → IsFaultless before after →
+      Leaves words before after status
+  LeavesUsage :
+      status ≡ Usage → IsUsage words before after → IsFaultless before after →
+      Leaves words before after status
+  LeavesInput :
+      status ≡ BadInput → IsRefusedInput words before after → IsFaultless before after →
+      Leaves words before after status
+  LeavesFault : status ≡ Fault → IsFault words before after → Leaves words before after status
+  LeavesNoMemory :
+      status ≡ NoMemory → IsNoMemory words before after → IsFaultless before after →
+      Leaves words before after status
 
--- the words are a command, and its file is there, not too long and in the grammar
+-- the words are a command, the files tell what they hold, and every file that it needs can be used
 pub record IsRunnable (words : List (List ℕ)) (files : FilesState) : Type 0 where
-  pub name : List ℕ
-  pub bytes : List ℕ
-  pub script : ScriptText
-  pub command : script_file words ≡ Some name
+  pub command : Command
+  pub is : command_of words ≡ Some command
   pub tells : IsTrue files.tells
-  pub there : content (files.folder name) ≡ Some bytes
-  pub within : length bytes ≤ most_bytes
-  pub spells : script_of bytes ≡ Some script
-
--- no count of faults rose
-pub record NoneRose (files files' : FilesState) (out out' err err' : SinkState) : Type 0 where
-  pub files_stand : Rose files.faults files'.faults → ⊥
-  pub out_stands : Rose out.faults out'.faults → ⊥
-  pub err_stands : Rose err.faults err'.faults → ⊥
+  pub input : HasInput command files
 
 -- a command that has all it needs is done, or memory is wanting
 pub data EndsWell (status : Status) : Type 0 where
   Completed : status ≡ Done → EndsWell status
   WantsMemory : status ≡ NoMemory → EndsWell status
-
--- all of it
-pub record Leaves (words : List (List ℕ)) (files files' : FilesState) (out out' err err' : SinkState) (status : Status) : Type 0 where
-  pub done : status ≡ Done → IsDone words files out out' err err'
-  pub usage : status ≡ Usage → IsUsage words out out' err err'
-  pub bad_input : status ≡ BadInput → IsRefusedInput words files out out' err err'
-  pub fault : status ≡ Fault → IsFault words files files' out out' err err'
-  pub no_memory : status ≡ NoMemory → IsNoMemory out out' err err'
-  pub not_refused : status ≢ Refused
-  pub faultless : status ≢ Fault → IsFaultless files files' out out' err err'

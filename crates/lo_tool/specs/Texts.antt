@@ -1,6 +1,5 @@
-use Rattle.std.specs.Prelude.{ℕ, List, ◌++◌, codes, decimal}
-
 -- What is printed to standard error.
+use Rattle.std.specs.Prelude.{ℕ, List, ◌++◌, codes, decimal}
 
 abbrev pub usage_line : List ℕ
 usage_line = codes "usage: lo_tool init|script|threads|vacuumlo|import|export|list|unlink|gen\n"
@@ -18,5 +17,5 @@ missing = codes "no such file"
 abbrev pub too_long : List ℕ
 too_long = codes "too long"
 
-abbrev pub place_text : (line column : ℕ) → List ℕ
-place_text line column = codes "line " ++ decimal line ++ codes " column " ++ decimal column
+abbrev pub bad_line_text : (line column : ℕ) → List ℕ
+bad_line_text line column = codes "line " ++ decimal line ++ codes " column " ++ decimal column

@@ -1,10 +1,11 @@
-ghost use Rattle.std.specs.Prelude.{◌≡◌, ◌++◌, IfOk, OnOk};
+//! From the bytes of a script to the text of its run.
+ghost use Rattle.std.specs.Prelude.{◌≡◌, IfOk};
 ghost use Rattle.lo_machine.specs.Run.{replies_of, schedule_of, IsOrderOf, IsWhole};
 ghost use Rattle.lo_script.specs.ReplyText.{lines_of};
 ghost use Rattle.lo_tool.specs.Reading.{RunsBytes};
 
 use crate::stop::Stop;
-use crate::text::{line_about, place_text};
+use crate::text::{bad_line_text, line_about};
 use lo_base::{Bytes, NoMemory, Reply, SessionNo};
 use lo_machine::{Finished, Running, orders_are_whole};
 use lo_script::{Script, ScriptError, read_script, reply_text};
@@ -16,9 +17,9 @@ pub fn run_script(alloc: Global, name: &str, bytes: &[u8]) -> Result<Bytes, Stop
 {
     let script = match read_script(alloc, bytes) {
         Ok(script) => script,
-        Err(ScriptError::Bad(place)) => {
-            let place = place_text(alloc, place)?;
-            return Err(Stop::BadInput(line_about(alloc, name, place.items())?));
+        Err(ScriptError::Bad(bad)) => {
+            let what = bad_line_text(alloc, bad)?;
+            return Err(Stop::BadInput(line_about(alloc, name, what.items())?));
         }
         Err(ScriptError::NoMemory) => return Err(Stop::NoMemory),
     };
@@ -29,7 +30,8 @@ pub fn run_script(alloc: Global, name: &str, bytes: &[u8]) -> Result<Bytes, Stop
 fn play(alloc: Global, script: Script) -> Result<Finished, NoMemory>
     requires { IsOrderOf script.programs script.order }
     ensures whole { IfOk result (λ finished. IsWhole script.programs (schedule_of script.order)) }
-    ensures replies { IfOk result (λ finished. finished.replies ≡ replies_of script.programs (schedule_of script.order)) }
+    ensures replies { IfOk result (λ finished.
+        finished.replies ≡ replies_of script.programs (schedule_of script.order)) }
 {
     orders_are_whole();
     let mut running = Running::start(alloc, script.programs)?;

@@ -1,7 +1,9 @@
+//! Reading a file whole. The size that is told first is a limit, and the reads say what the file holds.
 ghost use Rattle.std.specs.Prelude.{◌≡◌, ◌≤◌, ◌<◌, ◌+◌, IsTrue, IfOk, IfErr, OnOk, take, length};
 ghost use Rattle.lo_outside.specs.Files.{bytes_of};
-ghost use Rattle.lo_tool.specs.Outcome.{BadFile};
-ghost use Rattle.lo_tool.specs.Reading.{HasStopCause, IsReadWithin, IsStop, IsNoInput};
+ghost use Rattle.lo_tool.specs.Outside.{files_state};
+ghost use Rattle.lo_tool.specs.Reading.{HasStopCause, IsStop, IsNoInput};
+ghost use Rattle.lo_tool.specs.ScriptFile.{BadScript, IsReadWithin};
 ghost use Rattle.lo_tool.specs.Loops.{IsFront};
 
 use crate::stop::Stop;
@@ -18,8 +20,8 @@ const PIECE: usize = 8192;
 
 /// Reads a file that is there and not too long, to its end.
 pub fn read_file<F: Files>(alloc: Global, files: &mut F, name: &str) -> Result<Bytes, Stop>
-    ensures ok { IfOk result (IsReadWithin (record { tells = F.tells files.old; folder = F.folder files.old; faults = F.faults files.old }) name.now) }
-    ensures err { IfErr result (IsStop (BadFile (record { tells = F.tells files.old; folder = F.folder files.old; faults = F.faults files.old }) name.now)) }
+    ensures ok { IfOk result (IsReadWithin (files_state F.Files files.old) name.now) }
+    ensures err { IfErr result (IsStop (BadScript (files_state F.Files files.old) name.now)) }
     ensures tells { F.tells files.new ≡ F.tells files.old }
     ensures folder { F.folder files.new ≡ F.folder files.old }
     ensures cause { HasStopCause (F.faults files.old) (F.faults files.new) result }
@@ -65,10 +67,12 @@ fn read_piece<F: Files>(
     requires more { length bytes.old < size }
     ensures within { IfOk result (λ n. length bytes.new ≤ size) }
     ensures grown { IfOk result (λ n. length bytes.new ≡ length bytes.old + n) }
-    ensures front { IsTrue (F.tells files.old) → IsFront bytes.old (bytes_of (F.folder files.old name.now)) →
+    ensures front { IsTrue (F.tells files.old) →
+        IsFront bytes.old (bytes_of (F.folder files.old name.now)) →
         OnOk result (IsFront bytes.new (bytes_of (F.folder files.old name.now))) }
     ensures end { IsTrue (F.tells files.old) →
-        IfOk result (λ n. n ≡ 0 → length (bytes_of (F.folder files.old name.now)) ≤ length bytes.old) }
+        IfOk result (λ n. n ≡ 0 →
+        length (bytes_of (F.folder files.old name.now)) ≤ length bytes.old) }
     ensures no_input { IfErr result IsNoInput }
     ensures tells { F.tells files.new ≡ F.tells files.old }
     ensures folder { F.folder files.new ≡ F.folder files.old }

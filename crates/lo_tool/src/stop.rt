@@ -1,3 +1,4 @@
+//! Why a command came to no text.
 use lo_base::{Bytes, NoMemory};
 use lo_outside::Failed;
 
@@ -6,7 +7,9 @@ use lo_outside::Failed;
 pub enum Stop {
     /// A file cannot be used, as the line for standard error says.
     BadInput(Bytes),
+    /// A file failed.
     Fault,
+    /// There was not memory enough.
     NoMemory,
 }
 

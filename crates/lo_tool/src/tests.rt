@@ -1,5 +1,8 @@
+//! Whole commands: words, one file, and what the two sinks took. What is to come is written by hand.
 ghost use Rattle.std.specs.Prelude.{◌≡◌, ◌≤◌, length, IfOk};
 
+mod dialogue;
+mod large;
 mod transactions;
 
 use crate::run::{Status, run};
@@ -71,14 +74,15 @@ fn words_of(alloc: Global, line: &str) -> Result<Vec<String>, AllocError> {
     Ok(words)
 }
 
-fn sink(alloc: Global, most: u64, failing: u64) -> Result<MemSink, Fail> {
-    let mut sink = MemSink::new(alloc, 4000, most.max(1))?;
+// A sink with room for a text, and for some that is not to come.
+fn sink(alloc: Global, text: &str, most: u64, failing: u64) -> Result<MemSink, Fail> {
+    let mut sink = MemSink::new(alloc, text.len() as u64 + 4000, most.max(1))?;
     sink.fail(vec![in alloc; failing]?);
     Ok(sink)
 }
 
 fn one_file(alloc: Global, bytes: &[u8], failing: u64) -> Result<MemFiles, Fail> {
-    let mut files = MemFiles::new(alloc, 1, 10_000)?;
+    let mut files = MemFiles::new(alloc, 1, bytes.len() as u64)?;
     if !files.put("s", bytes) {
         return Err(Fail::new("no room"));
     }
@@ -93,8 +97,8 @@ fn check<R: Abort + Threads + Sync, F: Files>(
     case: &Case,
 ) -> Result<(), Fail> {
     let words = words_of(alloc, case.words)?;
-    let mut out = sink(alloc, case.most, case.failing.1)?;
-    let mut err = sink(alloc, case.most, case.failing.2)?;
+    let mut out = sink(alloc, case.printed, case.most, case.failing.1)?;
+    let mut err = sink(alloc, case.said, case.most, case.failing.2)?;
     let status = run(rt, alloc, &words, files, &mut out, &mut err, &OpenGate);
     assert!(rt; status == case.status);
     assert!(rt; out.taken() == case.printed.as_bytes());

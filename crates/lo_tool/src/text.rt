@@ -1,5 +1,6 @@
+//! What is said on standard error.
 ghost use Rattle.std.specs.Prelude.{◌≡◌, IfOk};
-ghost use Rattle.lo_tool.specs.Texts.{line_about, place_text};
+ghost use Rattle.lo_tool.specs.Texts.{line_about, bad_line_text};
 
 use itoa::Buffer;
 use lo_base::{Bytes, NoMemory};
@@ -25,14 +26,14 @@ pub fn line_about(alloc: Global, name: &str, what: &[u8]) -> Result<Bytes, NoMem
     Ok(line)
 }
 
-/// The text of a place in a script.
-pub fn place_text(alloc: Global, place: BadLine) -> Result<Bytes, NoMemory>
-    ensures { IfOk result (λ text. text ≡ place_text place.line place.column) }
+/// Which line and column of a script are wrong, each from 1.
+pub fn bad_line_text(alloc: Global, bad: BadLine) -> Result<Bytes, NoMemory>
+    ensures { IfOk result (λ text. text ≡ bad_line_text bad.line bad.column) }
 {
     let mut number = Buffer::new();
     let mut text = Bytes::from_slice(alloc, b"line ")?;
-    text.extend(number.format(place.line).as_bytes())?;
+    text.extend(number.format(bad.line).as_bytes())?;
     text.extend(b" column ")?;
-    text.extend(number.format(place.column).as_bytes())?;
+    text.extend(number.format(bad.column).as_bytes())?;
     Ok(text)
 }

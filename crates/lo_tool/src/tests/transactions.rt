@@ -1,57 +1,6 @@
 //! Scripts of transactions, with their whole output.
-use super::{check_all, done};
-use std::alloc::{AllocError, Global};
-use std::marker::Sync;
-use std::process::Abort;
+use super::dialogue::{Dialogue, SESSIONS, check_dialogue};
 use std::test::Fail;
-use std::thread::Threads;
-
-/// A script and its whole output, which are written side by side.
-#[derive(Drop)]
-struct Dialogue {
-    script: String,
-    printed: String,
-}
-
-impl Dialogue {
-    fn new(alloc: Global) -> Dialogue {
-        Dialogue {
-            script: String::new(alloc),
-            printed: String::new(alloc),
-        }
-    }
-
-    /// A request of a session, in pieces, and the reply that is to come.
-    fn add(&mut self, letter: &str, request: &[&str], reply: &str) -> Result<(), AllocError> {
-        self.script.push_str(letter)?;
-        self.script.push_str(": ")?;
-        for piece in request {
-            self.script.push_str(*piece)?;
-        }
-        self.script.push_str("\n")?;
-        for piece in [letter, ": ", reply, "\n"] {
-            self.printed.push_str(piece)?;
-        }
-        Ok(())
-    }
-
-    fn check<R: Abort + Threads + Sync>(&self, rt: &R, alloc: Global) -> Result<(), Fail> {
-        let case = done(self.script.as_str(), 1000, self.printed.as_str());
-        check_all(rt, alloc, &[case])
-    }
-}
-
-fn check_dialogue<R: Abort + Threads + Sync>(
-    rt: &R,
-    alloc: Global,
-    lines: &[(&str, &str, &str)],
-) -> Result<(), Fail> {
-    let mut dialogue = Dialogue::new(alloc);
-    for (letter, request, reply) in lines {
-        dialogue.add(*letter, &[*request], *reply)?;
-    }
-    dialogue.check(rt, alloc)
-}
 
 const HELD_BY_1: &str = "ERROR 55P03: another transaction holds this: 1";
 
@@ -157,26 +106,6 @@ fn a_creation_holds_its_object(rt: HostRuntime) -> Result<(), Fail> {
         ],
     )
 }
-
-/// Each session with an object of its own.
-const SESSIONS: [(&str, &str); 16] = [
-    ("A", "17001"),
-    ("B", "17002"),
-    ("C", "17003"),
-    ("D", "17004"),
-    ("E", "17005"),
-    ("F", "17006"),
-    ("G", "17007"),
-    ("H", "17008"),
-    ("I", "17009"),
-    ("J", "17010"),
-    ("K", "17011"),
-    ("L", "17012"),
-    ("M", "17013"),
-    ("N", "17014"),
-    ("O", "17015"),
-    ("P", "17016"),
-];
 
 // Every session creates and fills its own object in a block. No session sees another's before its commit, and what the
 // last one asks for is refused, so that its commit is a rollback.

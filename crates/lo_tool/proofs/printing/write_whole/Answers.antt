@@ -1,8 +1,7 @@
 use Rattle.std.proofs.Common.{◌∙◌}
-use Rattle.lo_tool.proofs.Pieces.{added_more, within_more}
+use Rattle.lo_tool.proofs.PiecesOfText.{added_more, within_more}
 use Rattle.lo_tool.proofs.printing.write_whole.Goals as goal
 
--- src/writing.rt:15:5
 pub loop-at-preserved : goal.loop-at-preserved
 loop-at-preserved g c =
     let done = c.loop-at.invariant in

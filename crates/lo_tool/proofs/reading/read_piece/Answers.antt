@@ -1,6 +1,6 @@
 use Rattle.std.proofs.Common.{take, drop}
 use Rattle.lo_outside.specs.Files.{bytes_of}
-use Rattle.lo_tool.proofs.Pieces.{front_more}
+use Rattle.lo_tool.proofs.PiecesOfText.{front_more}
 use Rattle.lo_tool.proofs.reading.read_piece.Goals as goal
 
 pub returns-clause-front : goal.returns-clause-front

@@ -1,4 +1,4 @@
-use Rattle.lo_tool.proofs.Leaving.{runs_file}
+use Rattle.lo_tool.proofs.Statuses.{runs_file}
 use Rattle.lo_tool.proofs.run.run_file.Goals as goal
 
 pub returns-clause-runs : goal.returns-clause-runs

@@ -1,7 +1,7 @@
 use Rattle.std.proofs.Common.{◌≡◌, ◌+◌, [], ◌∷◌, Some, None, position, ap, sym, ◌∙◌, length, length-append, arith}
 use Rattle.std.proofs.lemmas.List.Elements.{All-push, All-pop}
 use Rattle.lo_outside.specs.Place.{HasRoom, has_name}
-use Rattle.lo_outside.proofs.Putting.{put_there, put_new, can_there, cannot_new}
+use Rattle.lo_outside.proofs.SettingBytes.{put_there, put_new, can_there, cannot_new}
 use Rattle.lo_outside.proofs.mem_files.MemFiles.put.Goals as goal
 
 pub returns-in-Some-clause-fits : goal.returns-in-Some-clause-fits

@@ -1,6 +1,6 @@
 use Rattle.std.proofs.Common.{◌≡◌, ◌-◌, ℕ, Some, None, position, min, length, arith}
 use Rattle.lo_outside.specs.Place.{has_name}
-use Rattle.lo_outside.proofs.Putting.{at_position, no_position}
+use Rattle.lo_outside.proofs.SettingBytes.{at_position, no_position}
 use Rattle.lo_outside.proofs.mem_files.MemFilesFiles.read.Goals as goal
 
 nothing_left : (room at : ℕ) → 0 ≡ min room (0 - at)

@@ -1,6 +1,6 @@
 use Rattle.std.proofs.Common.{◌≡◌, Some, None, position, refl}
 use Rattle.lo_outside.specs.Place.{has_name}
-use Rattle.lo_outside.proofs.Putting.{at_position, no_position}
+use Rattle.lo_outside.proofs.SettingBytes.{at_position, no_position}
 use Rattle.lo_outside.proofs.mem_files.MemFilesFiles.size.Goals as goal
 
 pub returns-in_default-clause-size : goal.returns-in_default-clause-size

@@ -11,7 +11,7 @@ use Rattle.std.proofs.lemmas.Slice.Eq.{bytes_eq-Decides}
 use Rattle.lo_outside.specs.FaultPlan.{Planned}
 use Rattle.lo_outside.specs.MemFiles.{Puts, file_named, can_put}
 use Rattle.lo_outside.specs.Place.{Held, named_of, has_name, file_in, empty_place}
-use Rattle.lo_outside.proofs.Named.{found}
+use Rattle.lo_outside.proofs.FilesByName.{found}
 
 -- a place that is found is the first that passes
 pub first_of : (name : List ℕ) (places : List Held) (i : ℕ) → Some i ≡ position (has_name name) places → (i ≡ position_or_len (has_name name) places) × (i < length places)

@@ -1,0 +1,202 @@
+-- Which status a command ends with and what it leaves then, from how each of its parts ended.
+use Rattle.std.proofs.Common.{◌≡◌, ℕ, ◌<◌, ◌≤◌, List, Some, None, refl, ap, sym, ◌∙◌, subst, length, arith}
+use Rattle.std.specs.Prelude.{Option, Result, IsTrue}
+use Rattle.std.proofs.lemmas.Result.{IfOk-weaker, IfErr-weaker}
+use Rattle.lo_outside.specs.Faults.{Rose}
+use Rattle.lo_outside.specs.Files.{File, bytes_of}
+use Rattle.lo_script.specs.Script.{ScriptText, script_of}
+use Rattle.lo_tool.specs.declared.run.Status.{Status}
+use Rattle.lo_tool.specs.declared.run.Status.TheVariants.{Done, Refused, Usage, BadInput, Fault, NoMemory}
+use Rattle.lo_tool.specs.declared.stop.Stop.{Stop}
+use Rattle.lo_tool.specs.declared.stop.Stop.TheVariants.{BadInput as Input, Fault as Failed_, NoMemory as OutOfMemory}
+use Rattle.lo_tool.specs.Command.{Command, RunScript, command_of}
+use Rattle.lo_tool.specs.Commands.{IsBadInput, HasInput}
+use Rattle.lo_tool.specs.Outside.{Outside, FilesState, SinkState, Took, TookFront, TookNothing, FilesStay, IsFaultless, Failing, FilesFailed, OutFailed, ErrFailed, last_count, content}
+use Rattle.lo_tool.specs.Printing.{Complains, Said, Failed, Prints, Printed, Lost}
+use Rattle.lo_tool.specs.Reading.{IsStop, RunsBytes, RunsFile}
+use Rattle.lo_tool.specs.ScriptFile.{RunsTo, PrintsScript, IsReadWithin, IsOutsideGrammar, BadScript, Missing, TooLong, OutsideGrammar, GoodScript}
+use Rattle.lo_tool.specs.Status.{IsText, IsInputLine, IsDone, IsUsage, IsRefusedInput, IsFault, IsNoMemory, IsErrorLine, FaultLine, UsageLine, InputLine, SaidFront, IsRunnable, EndsWell, Completed, WantsMemory, Leaves, LeavesDone, LeavesUsage, LeavesInput, LeavesFault, LeavesNoMemory}
+use Rattle.lo_tool.specs.Texts.{usage_line, fault_line}
+
+bad_script : (files : FilesState) (name bytes : List ℕ) → IsReadWithin files name bytes → (stop : Stop) → IsStop (IsOutsideGrammar name bytes) stop → IsStop (BadScript files name) stop
+bad_script files name bytes read (Input line) outside = OutsideGrammar bytes read outside
+bad_script files name bytes read Failed_ h = tt
+bad_script files name bytes read OutOfMemory h = tt
+
+-- a file that was read, and then run
+pub runs_file : (files : FilesState) (name bytes : List ℕ) (result : Result (List ℕ) Stop) → IsReadWithin files name bytes → RunsBytes name bytes result → RunsFile files name result
+runs_file files name bytes result read runs = record {
+  ok = IfOk-weaker result (RunsTo bytes) (PrintsScript files name) (λ text run. record { bytes = bytes; read = read; run = run }) runs.ok;
+  err = IfErr-weaker result (IsStop (IsOutsideGrammar name bytes)) (IsStop (BadScript files name)) (bad_script files name bytes read) runs.err;
+}
+
+-- what is outside, in its three parts
+abbrev three : FilesState → SinkState → SinkState → Outside
+three files out err = record { files = files; out = out; err = err }
+
+same_taken : (old : SinkState) → TookNothing old old
+same_taken old = record { nothing = λ tells. refl }
+
+same_files : (old new : FilesState) → new.folder ≡ old.folder → FilesStay old new
+same_files old new same = record { stays = λ name. ap (λ (folder : List ℕ → Option File). folder name) same }
+
+-- a count that rose is greater, below the last value
+not_greater : (old new : ℕ) → old < last_count → Rose old new → new ≤ old → ⊥
+not_greater old new below rose same = omega (arith, below, rose, same)
+
+not_less : (n : ℕ) → n < n → ⊥
+not_less n h = omega (arith, h)
+
+same_not_greater : (old new : ℕ) → new ≡ old → old < new → ⊥
+same_not_greater old new same h = omega (arith, same, h)
+
+-- how standard error stands after the line of a fault
+record SaysFault (words : List (List ℕ)) (before after : Outside) : Type 0 where
+  said : before.err.faults < last_count → after.err.faults ≤ before.err.faults → Took fault_line before.err after.err
+  said_front : before.err.faults < after.err.faults → SaidFront words before after
+
+says_fault : (words : List (List ℕ)) (before after : Outside) (result : Status) → Complains fault_line Fault before.err after.err result → SaysFault words before after
+says_fault words before after result (Said is took same) = record {
+  said = λ below h. took;
+  said_front = λ h. absurd (same_not_greater before.err.faults after.err.faults same h);
+}
+says_fault words before after result (Failed is front rose) = record {
+  said = λ below h. absurd (not_greater before.err.faults after.err.faults below rose h);
+  said_front = λ h. record { line = fault_line; kind = FaultLine refl; said = front };
+}
+
+fault_is : (err err' : SinkState) (result : Status) → Complains fault_line Fault err err' result → result ≡ Fault
+fault_is err err' result (Said is took same) = is
+fault_is err err' result (Failed is front rose) = is
+
+-- standard error failed inside a line, and nothing was printed before
+lost_line : (words : List (List ℕ)) (files files' : FilesState) (out err err' : SinkState) (line : List ℕ) → IsErrorLine words files line → files'.folder ≡ files.folder → TookFront line err err' → Rose err.faults err'.faults → IsFault words (three files out err) (three files' out err')
+lost_line words files files' out err err' line kind folder front rose = record {
+  cause = ErrFailed rose;
+  files = same_files files files' folder;
+  no_output = λ below greater. same_taken out;
+  output = λ greater. absurd (not_less out.faults greater);
+  said = λ below greater. absurd (not_greater err.faults err'.faults below rose greater);
+  said_front = λ greater. record { line = line; kind = kind; said = front };
+}
+
+-- the words were no command
+pub leaves_usage : (words : List (List ℕ)) (files : FilesState) (out err err' : SinkState) (result : Status) → command_of words ≡ None → Complains usage_line Usage err err' result → Leaves words (three files out err) (three files out err') result
+leaves_usage words files out err err' result none (Said is took same) =
+    LeavesUsage is (record { no_command = none; files = same_files files files refl; no_output = same_taken out; said = took })
+    (record { files_count = refl; out_count = refl; err_count = same })
+leaves_usage words files out err err' result none (Failed is front rose) =
+    LeavesFault is (lost_line words files files out err err' usage_line (UsageLine none refl) refl front rose)
+
+-- a file of the command cannot be used
+pub leaves_bad_input : (words : List (List ℕ)) (files files' : FilesState) (out err err' : SinkState) (line : List ℕ) (result : Status) → IsInputLine words files line → files'.folder ≡ files.folder → files'.faults ≡ files.faults → Complains line BadInput err err' result → Leaves words (three files out err) (three files' out err') result
+leaves_bad_input words files files' out err err' line result bad folder count (Said is took same) =
+    LeavesInput is (record { line = line; bad = bad; files = same_files files files' folder; no_output = same_taken out; said = took })
+    (record { files_count = count; out_count = refl; err_count = same })
+leaves_bad_input words files files' out err err' line result bad folder count (Failed is front rose) =
+    LeavesFault is (lost_line words files files' out err err' line (InputLine bad) folder front rose)
+
+-- a file failed
+pub leaves_fault : (words : List (List ℕ)) (files files' : FilesState) (out err err' : SinkState) (result : Status) → files'.folder ≡ files.folder → Rose files.faults files'.faults → Complains fault_line Fault err err' result → Leaves words (three files out err) (three files' out err') result
+leaves_fault words files files' out err err' result folder rose complains =
+    let says : SaysFault words (three files out err) (three files' out err') = says_fault words (three files out err) (three files' out err') result complains in
+    LeavesFault (fault_is err err' result complains) (record {
+      cause = FilesFailed rose;
+      files = same_files files files' folder;
+      no_output = λ below greater. same_taken out;
+      output = λ greater. absurd (not_less out.faults greater);
+      said = says.said;
+      said_front = says.said_front;
+    })
+
+-- memory was wanting
+pub leaves_no_memory : (words : List (List ℕ)) (command : Command) (files files' : FilesState) (out err : SinkState) → command_of words ≡ Some command → files'.folder ≡ files.folder → files'.faults ≡ files.faults → Leaves words (three files out err) (three files' out err) NoMemory
+leaves_no_memory words command files files' out err is folder count =
+    LeavesNoMemory refl (record { command = command; is = is; files = same_files files files' folder; no_output = same_taken out; no_error = same_taken err })
+    (record { files_count = count; out_count = refl; err_count = refl })
+
+-- the text was printed, or standard output failed in it
+pub leaves_text : (words : List (List ℕ)) (files files' : FilesState) (out out' err err' : SinkState) (text : List ℕ) (result : Status) → IsText words files text → files'.folder ≡ files.folder → files'.faults ≡ files.faults → Prints text out out' err err' result → Leaves words (three files out err) (three files' out' err') result
+leaves_text words files files' out out' err err' text result made folder count (Printed is took same quiet) =
+    LeavesDone is (record {
+      text = text;
+      made = made;
+      files = same_files files files' folder;
+      printed = took;
+      no_error = record { nothing = λ tells. ap (λ (sink : SinkState). sink.taken) quiet };
+    })
+    (record { files_count = count; out_count = same; err_count = ap (λ (sink : SinkState). sink.faults) quiet })
+leaves_text words files files' out out' err err' text result made folder count (Lost is front rose complains) =
+    let says : SaysFault words (three files out err) (three files' out' err') = says_fault words (three files out err) (three files' out' err') result complains in
+    LeavesFault is (record {
+      cause = OutFailed rose;
+      files = same_files files files' folder;
+      no_output = λ below greater. absurd (not_greater out.faults out'.faults below rose greater);
+      output = λ greater. record { text = text; made = made; printed = front };
+      said = says.said;
+      said_front = says.said_front;
+    })
+
+-- what a status says
+abbrev pub Says : (words : List (List ℕ)) (before after : Outside) → Status → Type 0
+Says words before after Done = IsDone words before after
+Says words before after Refused = ⊥
+Says words before after Usage = IsUsage words before after
+Says words before after BadInput = IsRefusedInput words before after
+Says words before after Fault = IsFault words before after
+Says words before after NoMemory = IsNoMemory words before after
+
+pub says : (words : List (List ℕ)) (before after : Outside) (status expected : Status) → Leaves words before after status → status ≡ expected → Says words before after expected
+says words before after status expected (LeavesDone is done whole) h = subst (Says words before after) (sym is ∙ h) done
+says words before after status expected (LeavesUsage is usage whole) h = subst (Says words before after) (sym is ∙ h) usage
+says words before after status expected (LeavesInput is input whole) h = subst (Says words before after) (sym is ∙ h) input
+says words before after status expected (LeavesFault is fault) h = subst (Says words before after) (sym is ∙ h) fault
+says words before after status expected (LeavesNoMemory is wants whole) h = subst (Says words before after) (sym is ∙ h) wants
+
+-- no count changes but by a fault
+pub faultless : (words : List (List ℕ)) (before after : Outside) (status : Status) → Leaves words before after status → (status ≡ Fault → ⊥) → IsFaultless before after
+faultless words before after status (LeavesDone is done whole) h = whole
+faultless words before after status (LeavesUsage is usage whole) h = whole
+faultless words before after status (LeavesInput is input whole) h = whole
+faultless words before after status (LeavesFault is fault) h = absurd (h is)
+faultless words before after status (LeavesNoMemory is wants whole) h = whole
+
+none_is_not_some : {A : Type 0} (a : A) → None ≡ Some a → ⊥
+none_is_not_some a h = cc
+
+same_some : {A : Type 0} (a b : A) → Some a ≡ Some b → a ≡ b
+same_some a b h = cc
+
+no_script : (script : ScriptText) → None ≡ Some script → ⊥
+no_script script h = cc
+
+bytes_of_content : (file : Option File) (bytes : List ℕ) → content file ≡ Some bytes → bytes_of file ≡ bytes
+bytes_of_content None bytes h = cc
+bytes_of_content (Some file) bytes h = same_some file.bytes bytes h
+
+-- no line is said of a file that tells a script
+pub good_is_not_bad : (files : FilesState) (name line : List ℕ) → IsTrue files.tells → GoodScript files name → BadScript files name line → ⊥
+good_is_not_bad files name line tells good (Missing gone said) = none_is_not_some good.bytes (sym (ap content (gone tells)) ∙ good.there)
+good_is_not_bad files name line tells good (TooLong long said) =
+    let same : bytes_of (files.folder name) ≡ good.bytes = bytes_of_content (files.folder name) good.bytes good.there in
+    omega (arith, long tells, ap (λ (xs : List ℕ). length xs) same, good.within)
+good_is_not_bad files name line tells good (OutsideGrammar read is_read outside) =
+    let same : read ≡ good.bytes = same_some read good.bytes (sym (is_read.read.told tells) ∙ good.there) in
+    no_script good.script (sym outside.none ∙ (ap script_of same ∙ good.spells))
+
+-- the same of every command
+input_is_not_bad : (command : Command) (files : FilesState) (line : List ℕ) → IsTrue files.tells → HasInput command files → IsBadInput command files line → ⊥
+input_is_not_bad (RunScript file) files line tells good bad = good_is_not_bad files file line tells good bad
+
+not_said : (words : List (List ℕ)) (files : FilesState) (line : List ℕ) → IsRunnable words files → IsInputLine words files line → ⊥
+not_said words files line runnable bad =
+    let command : bad.command ≡ runnable.command = same_some bad.command runnable.command (sym bad.is ∙ runnable.is) in
+    input_is_not_bad runnable.command files line runnable.tells runnable.input (subst (λ (given : Command). IsBadInput given files line) command bad.bad)
+
+-- a command that has all it needs is done, or memory is wanting
+pub completes : (words : List (List ℕ)) (before after : Outside) (status : Status) → Leaves words before after status → IsRunnable words before.files → (Failing before after → ⊥) → EndsWell status
+completes words before after status (LeavesDone is done whole) runnable none = Completed is
+completes words before after status (LeavesUsage is usage whole) runnable none = absurd (none_is_not_some runnable.command (sym usage.no_command ∙ runnable.is))
+completes words before after status (LeavesInput is input whole) runnable none = absurd (not_said words before.files input.line runnable input.bad)
+completes words before after status (LeavesFault is fault) runnable none = absurd (none fault.cause)
+completes words before after status (LeavesNoMemory is wants whole) runnable none = WantsMemory is
