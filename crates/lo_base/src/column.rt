@@ -24,6 +24,7 @@ pub enum Storage {
     Main,
 }
 
+/// A column of a table: its name, its type, and how its long values may be stored.
 #[derive(Debug, Drop)]
 pub struct Column {
     pub name: Name,
@@ -31,4 +32,5 @@ pub struct Column {
     pub storage: Storage,
 }
 
+/// The columns of a table, in its order.
 pub type ColumnList = ListOf<Column>;

@@ -1,3 +1,5 @@
+// Lists that contracts see as lists, over `Vec`. Every list type of the store is one of these, so no crate above needs a
+// model of its own for one. Nothing here knows what the items are.
 ghost use Rattle.std.specs.Prelude.{◌≡◌, List, [], ◌∷◌, ◌++◌, length, OnOk, OnErr, IfOk};
 
 use crate::memory::NoMemory;
@@ -16,6 +18,7 @@ pub type Bytes = ListOf<u8>;
 /// The name of a table, a column, a savepoint, a cursor or a variable. `is_name` tells which bytes scripts can spell.
 pub type Name = ListOf<u8>;
 
+/// Numbers of large objects.
 pub type Oids = ListOf<u32>;
 
 /// The ids of rows.

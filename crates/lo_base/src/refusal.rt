@@ -1,3 +1,5 @@
+// The causes of refusals: one table, with the SQLSTATE code and the text of each. A new cause is one variant and one arm in
+// `code` and in `wording`, and the same in specs/Cause.antt.
 ghost use Rattle.std.specs.Prelude.{◌≡◌, ◌++◌, OnOk, OnErr};
 ghost use Rattle.lo_base.specs.Cause.{code_of, opening_of, ending_of};
 ghost use Rattle.lo_base.specs.Code.{sqlstate_of};

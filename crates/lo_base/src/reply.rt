@@ -18,15 +18,9 @@ pub enum Reply {
     /// The text of an array.
     Text(Bytes),
     /// A word and a number: how many were listed, removed, or stored anew.
-    Counted {
-        what: Word,
-        count: u64,
-    },
+    Counted { what: Word, count: u64 },
     /// The report of a clean-up that was stopped: the object whose removal was refused, and how many were removed before.
-    Stopped {
-        oid: Oid,
-        removed: u64,
-    },
+    Stopped { oid: Oid, removed: u64 },
     Refused(Refusal),
 }
 

@@ -77,6 +77,7 @@ pub enum Request {
     Finish,
 }
 
+/// A program, or a part of one.
 pub type Requests = ListOf<Request>;
 
 /// A column's new value in an `update`.
@@ -86,4 +87,5 @@ pub struct Assign {
     pub value: Literal,
 }
 
+/// The changes of an `update`, in the order of its line.
 pub type Assignments = ListOf<Assign>;

@@ -1,3 +1,4 @@
+// What no clause says: printed texts, and each list type taken once at its item.
 ghost use Rattle.std.specs.Prelude.{◌≡◌, ◌<◌};
 
 use crate::{

@@ -38,8 +38,11 @@ pub enum Cell {
 /// A row.
 pub type Values = ListOf<Value>;
 
+/// The literals of an `insert`, one for each column.
 pub type Literals = ListOf<Literal>;
 
+/// A row as it is kept or answered.
 pub type Cells = ListOf<Cell>;
 
+/// Rows of a table.
 pub type RowList = ListOf<Values>;

@@ -3,6 +3,7 @@ pub mod Database
 pub mod Descriptor
 pub mod Edit
 pub mod Held
+pub mod Laws
 pub mod Levels
 pub mod Listing
 pub mod Numbering

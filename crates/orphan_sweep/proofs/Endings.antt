@@ -16,7 +16,7 @@ use Rattle.orphan_sweep.specs.Ending.{LeavesFewer}
 use Rattle.orphan_sweep.proofs.Histories.{body, body-cons, acts-whole}
 use Rattle.orphan_sweep.proofs.Groups.{concat-groups, groups_opens}
 use Rattle.orphan_sweep.proofs.Rests.{limited, are_groups}
-use Rattle.orphan_sweep.proofs.ToldLaw.{plan_of, left_there, state-told, whole-found, whole-refused}
+use Rattle.orphan_sweep.proofs.OneMoreAnswer.{plan_of, left_there, state-told, whole-found, whole-refused}
 
 -- fewer numbers are cut into no more pieces
 pieces-fewer : (m n size : ℕ) (xs ys : List ℕ) → 0 < size → length xs ≤ length ys → length ys ≤ n → length (pieces m size xs) ≤ length (pieces n size ys)
