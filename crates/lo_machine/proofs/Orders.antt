@@ -1,15 +1,18 @@
 -- The schedule of an order is whole.
-use Rattle.std.proofs.Common.{◌≡◌, ◌≢◌, inl, inr, cond, ℕ, ◌+◌, ◌<◌, ◌≤◌, ◌==◌, List, [], ◌∷◌, ◌++◌, length, Option, Some, None, refl, ap, sym, ◌∙◌, subst, arith}
-use Rattle.std.specs.Prelude.{slice_get, IsSome, All, count_by}
-use Rattle.std.proofs.lemmas.Bool.{cases_eq}
+use Rattle.std.proofs.Common.{◌≡◌, ◌≢◌, inl, inr, cond, ℕ, zero, suc, ◌+◌, ◌-◌, ◌<◌, ◌≤◌, ◌==◌, List, [], ◌∷◌, ◌++◌, length, Option, Some, None, refl, ap, sym, ◌∙◌, subst, arith}
+use Rattle.std.specs.Prelude.{slice_get, IsSome, IfSome, All, count_by}
+use Rattle.std.proofs.lemmas.Bool.{cases_eq, cases_lt}
+use Rattle.std.proofs.lemmas.List.{get_or_past}
 use Rattle.std.proofs.lemmas.List.Sums.{sum_by-cons}
 use Rattle.std.proofs.lemmas.Bool.Decides.{nat_tests}
-use Rattle.std.proofs.lemmas.List.Elements.{All-head, All-tail, All-nil, All-append, All-weaker}
-use Rattle.std.proofs.lemmas.Option.{slice_get_past, slice_get-get_or}
+use Rattle.std.proofs.lemmas.List.Elements.{All-head, All-tail, All-nil, All-append, All-weaker, All-get_or}
+use Rattle.std.proofs.lemmas.Option.{slice_get_past, slice_get-get_or, slice_get_within, same_Some}
 use Rattle.lo_base.specs.declared.request.Request.{Request}
 use Rattle.lo_machine.specs.Program.{program_of}
+use Rattle.lo_machine.specs.Served.{IsServed, AreServed}
 use Rattle.lo_machine.specs.Run.{Moment, start, next_line, one_more, moment_after, end_from, IsPlayable, IsWholeFrom, IsWhole, IsOrderOf, acts_before, line_schedule, schedule_of_line, schedule_from, schedule_of}
 use Rattle.lo_machine.proofs.Lines.{Runs, line_runs}
+use Rattle.lo_machine.proofs.Replaying.{moves_on}
 
 record IsThe {X : Type 0} (line : Option X) : Type 0 where
   item : X
@@ -89,3 +92,38 @@ covered_at_start programs order by s low = omega (arith, by.lines s low)
 
 pub whole : (programs : List (List Request)) (order : List ℕ) → IsOrderOf programs order → IsWhole programs (schedule_of programs order)
 whole programs order by = whole_from programs start order by.sessions (covered_at_start programs order by)
+
+-- Where all requests are served so far, no line takes more than one advance.
+
+served_here : (program : List Request) (i : ℕ) (request : Request) → All IsServed program → slice_get program i ≡ Some request → IsServed request
+served_here program i request all here =
+    subst IsServed (same_Some _ _ (sym (slice_get-get_or program i request (slice_get_within program i request here)) ∙ here))
+    (All-get_or IsServed program i request (slice_get_within program i request here) all)
+
+one_advance : (more : ℕ) (programs : List (List Request)) (m : Moment) (s : ℕ) (line : Option Request) → IfSome line IsServed → line_schedule more programs m s line ≡ s ∷ []
+one_advance more programs m s None served = refl
+one_advance zero programs m s (Some request) served = refl
+one_advance (suc more) programs m s (Some request) served = rw (moves_on m.state s request served) refl
+
+served_line : (programs : List (List Request)) (m : Moment) (s : ℕ) → AreServed programs → IfSome (next_line programs m s) IsServed
+served_line programs m s all = by (next_line programs m s) refl
+  where
+    program : All IsServed (program_of programs s)
+    program = elim (cases_lt (s - 1) (length programs)) [
+      | inl within ↦ All-get_or (All IsServed) programs (s - 1) [] within all
+      | inr past ↦ subst (All IsServed) (sym (get_or_past programs (s - 1) [] past)) (All-nil IsServed)
+    ]
+
+    by : (line : Option Request) → next_line programs m s ≡ line → IfSome line IsServed
+    by None is = tt
+    by (Some request) is = served_here (program_of programs s) (m.lines_done s) request program is
+
+served_from : (programs : List (List Request)) (m : Moment) (order : List ℕ) → AreServed programs → schedule_from programs m order ≡ order
+served_from programs m [] all = refl
+served_from programs m (s ∷ order) all =
+    let here : schedule_of_line programs m s ≡ s ∷ [] = one_advance (acts_before (m.state.players s).sweep) programs m s (next_line programs m s) (served_line programs m s all) in
+    ap (λ (run : List ℕ). run ++ schedule_from programs (end_from programs m (schedule_of_line programs m s)) order) here
+    ∙ ap (λ (rest : List ℕ). s ∷ rest) (served_from programs (end_from programs m (schedule_of_line programs m s)) order all)
+
+pub served : (programs : List (List Request)) (order : List ℕ) → AreServed programs → schedule_of programs order ≡ order
+served programs order all = served_from programs start order all

@@ -1,4 +1,4 @@
-use Rattle.std.specs.Prelude.{◌≡◌, ℕ, ℤ, pos, negsuc, ◌≤◌, length, Option, Some, None}
+use Rattle.std.specs.Prelude.{◌≡◌, ℕ, ℤ, pos, negsuc, ◌≤◌, All, List, length, Option, Some, None}
 use Rattle.lo_base.specs.declared.request.Request.{Request}
 use Rattle.lo_base.specs.declared.request.Request.TheVariants.{Begin, Commit, Rollback, Savepoint, Release, RollbackTo, LoCreate, LoPut, LoGet, Vacuum}
 use Rattle.lo_base.specs.Name.{IsName}
@@ -28,3 +28,7 @@ IsServed (LoCreate o) = 1 ≤ o
 IsServed (LoPut o at bytes) = IsPutOffset at × (length bytes ≤ put_limit)
 IsServed (LoGet o from length) = IsAllBytes from length
 IsServed _ = ⊥
+
+-- programs of such requests alone
+abbrev pub AreServed : List (List Request) → Type 0
+AreServed programs = All (λ lines. All IsServed lines) programs

@@ -14,6 +14,6 @@ mod running;
 mod tests;
 
 pub use engine::Engine;
-pub use law::orders_are_whole;
+pub use law::{orders_are_whole, served_lines_take_one_advance};
 pub use programs::Programs;
 pub use running::{Finished, Replies, Running, Schedule};

@@ -83,14 +83,14 @@ others : (s : ℕ) → program_of programs (suc (suc s)) ≡ []
 unfolding programs no_request
 others s = simp unary_clauses (no_program 15 s)
 
-none_left : (s : ℕ) → 1 ≤ s → next_line programs (end_of programs (schedule_of order)) s ≡ None
+none_left : (s : ℕ) → 1 ≤ s → next_line programs (end_of programs (schedule_of programs order)) s ≡ None
 unfolding programs order no_request
 none_left zero positive = absurd (none_below_one positive)
 none_left (suc zero) positive = refl
 none_left (suc (suc s)) positive =
-    ap (λ (program : List Request). slice_get program ((end_of programs (schedule_of order)).lines_done (suc (suc s)))) (others s)
+    ap (λ (program : List Request). slice_get program ((end_of programs (schedule_of programs order)).lines_done (suc (suc s)))) (others s)
 
-whole : IsWhole programs (schedule_of order)
+whole : IsWhole programs (schedule_of programs order)
 unfolding programs order
 whole = record {
   sessions = All-replicate (λ session. 1 ≤ session) 2 1 (lit≤ tt);
@@ -112,7 +112,7 @@ one_text : (bytes text text' : List ℕ) → RunsTo bytes text → RunsTo bytes 
 one_text bytes text text' a b =
     let same : Some a.script ≡ Some b.script = sym a.spells ∙ b.spells in
     let script : a.script ≡ b.script = cc in
-    a.replies ∙ ap (λ (script : ScriptText). lines_of (replies_of script.programs (schedule_of script.order))) script ∙ sym b.replies
+    a.replies ∙ ap (λ (script : ScriptText). lines_of (replies_of script.programs (schedule_of script.programs script.order))) script ∙ sym b.replies
 
 -- so a text that lacks its last line is that of no run
 shorter_text : List ℕ

@@ -16,8 +16,8 @@ most_bytes = 67108864
 pub record RunsTo (bytes text : List ℕ) : Type 0 where
   pub script : ScriptText
   pub spells : script_of bytes ≡ Some script
-  pub whole : IsWhole script.programs (schedule_of script.order)
-  pub replies : text ≡ lines_of (replies_of script.programs (schedule_of script.order))
+  pub whole : IsWhole script.programs (schedule_of script.programs script.order)
+  pub replies : text ≡ lines_of (replies_of script.programs (schedule_of script.programs script.order))
 
 -- the bytes of a file that is there and not too long
 pub record IsReadWithin (files : FilesState) (name bytes : List ℕ) : Type 0 where

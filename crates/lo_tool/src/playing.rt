@@ -29,9 +29,9 @@ pub fn run_script(alloc: Global, name: &str, bytes: &[u8]) -> Result<Bytes, Stop
 /// Runs a script on the empty database, to its end.
 fn play(alloc: Global, script: Script) -> Result<Finished, NoMemory>
     requires { IsOrderOf script.programs script.order }
-    ensures whole { IfOk result (λ finished. IsWhole script.programs (schedule_of script.order)) }
+    ensures whole { IfOk result (λ finished. IsWhole script.programs (schedule_of script.programs script.order)) }
     ensures replies { IfOk result (λ finished.
-        finished.replies ≡ replies_of script.programs (schedule_of script.order)) }
+        finished.replies ≡ replies_of script.programs (schedule_of script.programs script.order)) }
 {
     orders_are_whole();
     let mut running = Running::start(alloc, script.programs)?;
