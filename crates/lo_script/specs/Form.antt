@@ -2,7 +2,7 @@
 use Rattle.std.specs.Prelude.{ℕ, pos, List, [], ◌∷◌, Option, Some, None, option_and_then, if◌then◌else◌, codes, bytes_eq}
 use Rattle.lo_base.specs.declared.request.Request.{Request}
 use Rattle.lo_base.specs.declared.request.Request.TheVariants.{Begin, Commit, Rollback, Savepoint, Release, RollbackTo, LoCreate, LoPut, LoGet, Vacuum}
-use Rattle.lo_machine.specs.Spelled.{put_limit}
+use Rattle.lo_machine.specs.Served.{put_limit}
 use Rattle.lo_script.specs.Token.{number_of, bytes_of, name_of, keyword_of}
 
 -- the first token spells a value, and the others go on with it
