@@ -1,5 +1,5 @@
 -- How replies are printed.
-use Rattle.std.specs.Prelude.{◌≢◌, ℕ, All, List, [], ◌∷◌, ◌++◌, codes}
+use Rattle.std.specs.Prelude.{◌≢◌, ℕ, ℤ, All, List, [], ◌∷◌, ◌++◌, codes}
 use Rattle.std.specs.Fmt.{decimal, signed_decimal}
 use Rattle.std.specs.List.{AllByRecursion}
 use Rattle.hex.specs.Hex.{encode_lower}
@@ -57,6 +57,14 @@ abbrev pub spaced : {A : Type 0} → (text : A → List ℕ) → List A → List
 spaced text [] = []
 spaced text (a ∷ more) = after_space (text a) ++ spaced text more
 
+-- a row: its values
+abbrev pub row_text : List Cell → List ℕ
+row_text row = codes "ROW" ++ spaced cell_text row
+
+-- the ids of a table's rows
+abbrev pub ids_text : List ℤ → List ℕ
+ids_text ids = codes "IDS" ++ spaced signed_decimal ids
+
 -- a word and a number
 abbrev pub counted_text : FixedWord → (count : ℕ) → List ℕ
 counted_text what count = word_text what ++ after_space (decimal count)
@@ -74,8 +82,8 @@ text_of (Word word) = word_text word
 text_of (Number n) = signed_decimal n
 text_of (Content bytes) = bytes_text bytes
 text_of Nothing = codes "null"
-text_of (Row row) = codes "ROW" ++ spaced cell_text row
-text_of (Ids ids) = codes "IDS" ++ spaced signed_decimal ids
+text_of (Row row) = row_text row
+text_of (Ids ids) = ids_text ids
 text_of (Text text) = text
 text_of (Counted what count) = counted_text what count
 text_of (Stopped oid removed) = stopped_text oid removed

@@ -1,8 +1,11 @@
+// Replies as lines, each by what is appended for one of its parts. How a reply is printed stands in specs/ReplyText.antt; a
+// new word or shape of a reply is one arm here and one clause there.
 ghost use Rattle.std.specs.Prelude.{◌≡◌, ◌≤◌, ◌++◌, length, codes, OnOk, OnErr};
 ghost use Rattle.std.specs.Fmt.{signed_decimal};
 ghost use Rattle.hex.specs.Hex.{encode_lower};
 ghost use Rattle.lo_base.specs.Appended.{AddsFront};
-ghost use Rattle.lo_script.specs.ReplyText.{text_of, line_of, error_text, word_text, bytes_text, cell_text, after_space, spaced, counted_text, stopped_text};
+ghost use Rattle.lo_script.specs.ReplyText.{line_of, text_of, word_text, bytes_text, error_text};
+ghost use Rattle.lo_script.specs.ReplyText.{after_space, spaced, cell_text, row_text, ids_text, counted_text, stopped_text};
 
 use hex::encode_to_slice;
 use itoa::Buffer;
@@ -11,7 +14,9 @@ use lo_base::{Bytes, Cell, NoMemory, Refusal, Reply, SessionNo, Word};
 /// How many bytes are printed at a time.
 const PIECE: usize = 64;
 
-/// Appends the reply's line. Where there is no memory, a front of it may have been appended.
+/// Appends the reply's line, with its line feed: the session's letter, a colon, a space and the text. Bytes
+/// are printed in the hex format of `bytea` (PostgreSQL manual, Binary Data Types). Where there is no memory,
+/// a front of the line may have been appended.
 pub fn reply_text(s: SessionNo, reply: &Reply, out: &mut Bytes) -> Result<(), NoMemory>
     ensures ok { OnOk result (out.new ≡ out.old ++ line_of s reply.now) }
     ensures err { OnErr result (AddsFront out.old out.new (line_of s reply.now)) }
@@ -66,8 +71,8 @@ fn text_of_word(word: Word) -> &'static str
 }
 
 fn append_row(cells: &[Cell], out: &mut Bytes) -> Result<(), NoMemory>
-    ensures ok { OnOk result (out.new ≡ out.old ++ (codes "ROW" ++ spaced cell_text cells.now)) }
-    ensures err { OnErr result (AddsFront out.old out.new (codes "ROW" ++ spaced cell_text cells.now)) }
+    ensures ok { OnOk result (out.new ≡ out.old ++ row_text cells.now) }
+    ensures err { OnErr result (AddsFront out.old out.new (row_text cells.now)) }
 {
     out.extend(b"ROW")?;
     append_cells(cells, out)
@@ -106,8 +111,8 @@ fn append_cell(cell: &Cell, out: &mut Bytes) -> Result<(), NoMemory>
 }
 
 fn append_ids(ids: &[i64], out: &mut Bytes) -> Result<(), NoMemory>
-    ensures ok { OnOk result (out.new ≡ out.old ++ (codes "IDS" ++ spaced signed_decimal ids.now)) }
-    ensures err { OnErr result (AddsFront out.old out.new (codes "IDS" ++ spaced signed_decimal ids.now)) }
+    ensures ok { OnOk result (out.new ≡ out.old ++ ids_text ids.now) }
+    ensures err { OnErr result (AddsFront out.old out.new (ids_text ids.now)) }
 {
     out.extend(b"IDS")?;
     append_numbers(ids, out)

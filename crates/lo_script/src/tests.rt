@@ -1,3 +1,5 @@
+// What no clause says: lines and columns of errors, that calls succeed where there is memory, and printed texts once more. The
+// expected texts are typed from the grammar and the table of replies, never from what the program printed.
 use crate::token::Tokens;
 use crate::{BadLine, ScriptError, read_script, reply_text};
 use lo_base::{Bytes, Cause, Cell, Cells, Ids, Refusal, Reply, Request, SessionNo, Word};
@@ -157,17 +159,17 @@ const BAD: [(&str, u64, u64); 135] = [
     ("A: begin\r\nA: savepoint a\r\nA: rollback to A\r\n", 3, 16),
 ];
 
-/// The place that the error names.
-fn place_of(e: &ScriptError) -> Option<BadLine> {
+/// The line and the column that the error names.
+fn bad_line_of(e: &ScriptError) -> Option<BadLine> {
     match e {
-        ScriptError::Bad(place) => Some(*place),
+        ScriptError::Bad(start) => Some(*start),
         ScriptError::NoMemory => None,
     }
 }
 
 fn expect_bad(rt: &impl Abort, alloc: Global, text: &[u8], line: u64, column: u64) {
-    let place = read_script(alloc, text).err().and_then(|e| place_of(&e));
-    assert_eq!(rt; place, Some(BadLine { line, column }));
+    let start = read_script(alloc, text).err().and_then(|e| bad_line_of(&e));
+    assert_eq!(rt; start, Some(BadLine { line, column }));
 }
 
 #[test]
@@ -250,8 +252,8 @@ fn each_letter_is_a_session(rt: HostRuntime) -> Result<(), Fail> {
 fn bytes_have_a_limit(rt: HostRuntime) -> Result<(), Fail> {
     let token = Tokens::of(b"\\x4142", 7).next()?;
     assert_eq!(rt; token.bytes(rt.alloc(), 2)?.items(), b"AB".as_slice());
-    let place = token.bytes(rt.alloc(), 1).err().and_then(|e| place_of(&e));
-    assert_eq!(rt; place, Some(BadLine { line: 7, column: 1 }));
+    let start = token.bytes(rt.alloc(), 1).err().and_then(|e| bad_line_of(&e));
+    assert_eq!(rt; start, Some(BadLine { line: 7, column: 1 }));
     Ok(())
 }
 

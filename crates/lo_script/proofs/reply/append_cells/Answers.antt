@@ -1,7 +1,7 @@
 use Rattle.std.proofs.Common.{rules, arith}
 use Rattle.std.proofs.lemmas.Result.{err_from_is_err_and}
 use Rattle.lo_script.specs.ReplyText.{cell_text}
-use Rattle.lo_script.proofs.Printing.{stopped_at}
+use Rattle.lo_script.proofs.PrintedFronts.{stopped_at}
 use Rattle.lo_script.proofs.reply.append_cells.Goals as goal
 
 pub returns-in_err-append_spaced_cell-clause-err : goal.returns-in_err-append_spaced_cell-clause-err

@@ -3,7 +3,7 @@ use Rattle.std.specs.Prelude.{codes}
 use Rattle.std.specs.Fmt.{signed_decimal}
 use Rattle.std.proofs.lemmas.Result.{on_err_weaker}
 use Rattle.lo_script.specs.ReplyText.{spaced}
-use Rattle.lo_script.proofs.Printing.{front_at_end}
+use Rattle.lo_script.proofs.PrintedFronts.{front_at_end}
 use Rattle.lo_script.proofs.reply.append_ids.Goals as goal
 
 pub returns-clause-err : goal.returns-clause-err

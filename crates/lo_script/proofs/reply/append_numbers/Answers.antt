@@ -1,7 +1,7 @@
 use Rattle.std.proofs.Common.{◌≡◌, get_or, pos, refl, rules, arith}
 use Rattle.std.specs.Fmt.{signed_decimal}
 use Rattle.std.proofs.lemmas.Result.{err_from_is_err_and}
-use Rattle.lo_script.proofs.Printing.{stopped_at}
+use Rattle.lo_script.proofs.PrintedFronts.{stopped_at}
 use Rattle.lo_script.proofs.reply.append_numbers.Goals as goal
 
 pub returns-in_err-append_spaced-clause-err : goal.returns-in_err-append_spaced-clause-err

@@ -1,7 +1,7 @@
 use Rattle.std.proofs.Common.{drop}
 use Rattle.std.specs.Fmt.{signed_decimal}
 use Rattle.lo_script.specs.ReplyText.{spaced}
-use Rattle.lo_script.proofs.Printing.{Leaves}
+use Rattle.lo_script.proofs.PrintedFronts.{Leaves}
 use Rattle.lo_script.proofs.reply.append_numbers.Given as goal
 
 abbrev pub invariant-loop-n : goal.invariant-loop-n

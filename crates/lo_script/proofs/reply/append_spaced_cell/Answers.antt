@@ -2,7 +2,7 @@ use Rattle.std.proofs.Common.{refl}
 use Rattle.std.specs.Prelude.{codes}
 use Rattle.std.proofs.lemmas.Result.{on_err_weaker}
 use Rattle.lo_script.specs.ReplyText.{cell_text}
-use Rattle.lo_script.proofs.Printing.{front_at_end}
+use Rattle.lo_script.proofs.PrintedFronts.{front_at_end}
 use Rattle.lo_script.proofs.reply.append_spaced_cell.Goals as goal
 
 pub returns-clause-err : goal.returns-clause-err

@@ -2,7 +2,7 @@ use Rattle.std.proofs.Common.{◌≡◌, ◌++◌, refl, rules}
 use Rattle.std.specs.Prelude.{codes}
 use Rattle.std.specs.Fmt.{decimal}
 use Rattle.std.proofs.lemmas.Result.{err_from_is_err_and, on_err_weaker}
-use Rattle.lo_script.proofs.Printing.{front_after, front_at_end, two_appended}
+use Rattle.lo_script.proofs.PrintedFronts.{front_after, front_at_end, two_appended}
 use Rattle.lo_script.proofs.reply.append_stopped.Goals as goal
 
 pub returns-in_err-append_spaced-clause-err : goal.returns-in_err-append_spaced-clause-err

@@ -22,7 +22,7 @@ use Rattle.lo_base.specs.Cause.{code_of, opening_of, ending_of}
 use Rattle.lo_base.specs.Code.{sqlstate_of}
 use Rattle.lo_base.specs.Refusal.{numbered}
 use Rattle.lo_script.specs.ReplyText.{word_text, bytes_text, cell_text, after_space, spaced, counted_text, stopped_text, text_of, error_text, IsOneLine, IsOneLineCell, HasOneLineArrays}
-use Rattle.lo_script.proofs.Numbers.{tested}
+use Rattle.lo_script.proofs.DecimalsAndBytes.{tested}
 
 -- a test that computes
 abbrev is_one_line : List ℕ → Bool

@@ -10,8 +10,8 @@ use Rattle.lo_script.specs.Token.{number_of, bytes_of, name_of, keyword_of, sess
 use Rattle.lo_script.specs.Form.{Form, first_token, no_token, one_token, two_tokens, three_tokens, none_or, savepoint_of, release_of, rollback_of, create_of, put_of, get_of, forms, large_object_forms, form_in, request_of, oid_limit}
 use Rattle.lo_script.specs.Spelling.{Spells}
 use Rattle.lo_script.specs.Script.{entry_of}
-use Rattle.lo_script.proofs.Numbers.{Prints, PrintsBytes, tested, some_injective, number_of-prints, number_of-decimal, bytes_of-prints, bytes_of-spelled}
-use Rattle.lo_script.proofs.Words.{name_of-prints, spelled_name, keyword_of-is}
+use Rattle.lo_script.proofs.DecimalsAndBytes.{Prints, PrintsBytes, tested, some_injective, number_of-prints, number_of-decimal, bytes_of-prints, bytes_of-spelled}
+use Rattle.lo_script.proofs.MarksAndNames.{name_of-prints, spelled_name, keyword_of-is}
 
 -- a first token that spells a value
 pub record First {A R : Type 0} (value : List ℕ → Option A) (others : A → List (List ℕ) → Option R) (tokens : List (List ℕ)) (r : R) : Type 0 where
