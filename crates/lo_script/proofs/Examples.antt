@@ -4,8 +4,9 @@ use Rattle.std.specs.Prelude.{codes}
 use Rattle.std.specs.Fmt.{digits}
 use Rattle.hex.specs.Hex.{encode_with, decode_pairs}
 use Rattle.lo_base.specs.declared.refusal.Cause.TheVariants.{NoObject, ObjectExists}
-use Rattle.lo_base.specs.declared.reply.Reply.TheVariants.{Word, Number, Content, Refused}
-use Rattle.lo_base.specs.declared.reply.Word.TheVariants.{Begin as Begun, Commit as Committed, Rollback as RolledBack, Savepoint as Saved, Release as Released, Vacuum as Vacuumed, Ok}
+use Rattle.lo_base.specs.declared.reply.Reply.TheVariants.{Word, Number, Content, Nothing, Row, Ids, Text, Counted, Stopped, Refused}
+use Rattle.lo_base.specs.declared.reply.Word.TheVariants as words
+use Rattle.lo_base.specs.declared.value.Cell.TheVariants as cells
 use Rattle.lo_base.specs.declared.request.Request.{Request}
 use Rattle.lo_base.specs.declared.request.Request.TheVariants.{Begin, Commit, Rollback, Savepoint, Release, RollbackTo, LoCreate, LoPut, LoGet, Vacuum}
 use Rattle.lo_script.specs.Token.{decimal_of, bytes_of, name_of, session_of}
@@ -200,14 +201,54 @@ long_form = refl
 
 -- Replies
 
-printed_replies : lines_of ((1, Number (pos 17000)) ∷ (1, Word Ok) ∷ (1, Content (0 ∷ 0 ∷ 0 ∷ 65 ∷ [])) ∷ [])
+printed_replies : lines_of ((1, Number (pos 17000)) ∷ (1, Word words.Ok) ∷ (1, Content (0 ∷ 0 ∷ 0 ∷ 65 ∷ [])) ∷ [])
     ≡ codes "A: 17000\nA: OK\nA: \\x00000041\n"
 unfolding digits encode_with
 printed_replies = refl
 
-printed_words : lines_of ((1, Word Begun) ∷ (2, Word Committed) ∷ (15, Word RolledBack) ∷ (16, Word Saved) ∷ (16, Word Released) ∷ (16, Word Vacuumed) ∷ [])
-    ≡ codes "A: BEGIN\nB: COMMIT\nO: ROLLBACK\nP: SAVEPOINT\nP: RELEASE\nP: VACUUM\n"
-printed_words = refl
+transaction_words : lines_of ((1, Word words.Begin) ∷ (2, Word words.Commit) ∷ (15, Word words.Rollback) ∷ (16, Word words.Savepoint) ∷ (16, Word words.Release) ∷ [])
+    ≡ codes "A: BEGIN\nB: COMMIT\nO: ROLLBACK\nP: SAVEPOINT\nP: RELEASE\n"
+transaction_words = refl
+
+table_words : lines_of ((1, Word words.CreateTable) ∷ (1, Word words.Insert) ∷ (1, Word words.Update) ∷ (1, Word words.Delete) ∷ (1, Word words.Vacuum) ∷ [])
+    ≡ codes "A: CREATE TABLE\nA: INSERT 1\nA: UPDATE 1\nA: DELETE 1\nA: VACUUM\n"
+table_words = refl
+
+other_words : lines_of ((2, Word words.Declare) ∷ (2, Word words.Close) ∷ (2, Word words.Idle) ∷ [])
+    ≡ codes "B: DECLARE\nB: CLOSE\nB: IDLE\n"
+other_words = refl
+
+printed_null : line_of 3 Nothing ≡ codes "C: null\n"
+printed_null = refl
+
+-- an id, a null, the number of a large object, a bytea, and arrays, one with a lower bound of its own
+printed_row : line_of 1 (Row (cells.Int (negsuc 6) ∷ cells.Null ∷ cells.Oid 17000 ∷ cells.Inline (0 ∷ 171 ∷ []) ∷ cells.Text (codes "{}") ∷ cells.Text (codes "[0:1]={NULL,-3}") ∷ []))
+    ≡ codes "A: ROW -7 null 17000 \\x00ab {} [0:1]={NULL,-3}\n"
+unfolding digits encode_with
+printed_row = refl
+
+empty_bytes_in_a_row : text_of (Row (cells.Int (pos 1) ∷ cells.Inline [] ∷ [])) ≡ codes "ROW 1 \\x"
+unfolding digits encode_with
+empty_bytes_in_a_row = refl
+
+printed_ids : text_of (Ids (negsuc 1 ∷ pos 0 ∷ pos 30 ∷ [])) ≡ codes "IDS -2 0 30"
+unfolding digits
+printed_ids = refl
+
+no_ids : text_of (Ids []) ≡ codes "IDS"
+no_ids = refl
+
+printed_array : text_of (Text (codes "{1,NULL}")) ≡ codes "{1,NULL}"
+printed_array = refl
+
+counts : lines_of ((1, Counted words.Listed 12) ∷ (1, Counted words.Scanned 3) ∷ (1, Counted words.Removed 2) ∷ (1, Counted words.WouldRemove 0) ∷ (1, Counted words.Rewrite 1000) ∷ [])
+    ≡ codes "A: LISTED 12\nA: SCANNED 3\nA: REMOVED 2\nA: WOULD REMOVE 0\nA: REWRITE 1000\n"
+unfolding digits
+counts = refl
+
+printed_stop : text_of (Stopped 4294967295 12) ≡ codes "STOPPED 4294967295 12"
+unfolding digits
+printed_stop = refl
 
 printed_refusal : line_of 1 (Refused (record { cause = NoObject; subject = pos 7 })) ≡ codes "A: ERROR 42704: large object 7 does not exist\n"
 unfolding digits

@@ -1,8 +1,8 @@
 mod Examples
-pub mod Lines
-pub mod Numbers
-pub mod OneLine
-pub mod Ordered
-pub mod Printing
-pub mod Spellings
-pub mod Words
+pub mod CutTexts
+pub mod DecimalsAndBytes
+pub mod MarksAndNames
+pub mod OneLineReplies
+pub mod PrintedFronts
+pub mod ScriptOrder
+pub mod SpelledRequests

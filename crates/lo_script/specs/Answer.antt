@@ -5,7 +5,7 @@ use Rattle.lo_script.specs.declared.error.ScriptError.TheVariants.{Bad, NoMemory
 
 -- the text is outside the grammar
 abbrev pub IsBad : ScriptError → Type 0
-IsBad (Bad place) = Unit {0}
+IsBad (Bad start) = Unit {0}
 IsBad NoMemory = ⊥
 
 -- The answer is the value where the text spells one, and otherwise says that it is outside the grammar. Want of memory may

@@ -2,7 +2,7 @@
 use Rattle.std.specs.Prelude.{ℕ, pos, List, [], ◌∷◌, Option, Some, None, option_and_then, if◌then◌else◌, codes, bytes_eq}
 use Rattle.lo_base.specs.declared.request.Request.{Request}
 use Rattle.lo_base.specs.declared.request.Request.TheVariants.{Begin, Commit, Rollback, Savepoint, Release, RollbackTo, LoCreate, LoPut, LoGet, Vacuum}
-use Rattle.lo_machine.specs.Spelled.{put_limit}
+use Rattle.lo_machine.specs.Served.{put_limit}
 use Rattle.lo_script.specs.Token.{number_of, bytes_of, name_of, keyword_of}
 
 -- the first token spells a value, and the others go on with it
@@ -51,9 +51,9 @@ oid_limit = 4294967295
 abbrev pub create_of : List (List ℕ) → Option Request
 create_of = one_token (number_of 1 oid_limit) LoCreate
 
--- lo_put OID INT8 BYTES
+-- lo_put OID OFFSET BYTES
 abbrev pub put_of : List (List ℕ) → Option Request
-put_of = three_tokens (number_of 0 oid_limit) (number_of 0 put_limit) (bytes_of put_limit) (λ oid at bytes. LoPut oid (pos at) bytes)
+put_of = three_tokens (number_of 0 oid_limit) (number_of 0 put_limit) (bytes_of put_limit) (λ oid offset bytes. LoPut oid (pos offset) bytes)
 
 -- lo_get OID, which is all bytes from the first on
 abbrev pub get_of : List (List ℕ) → Option Request

@@ -16,7 +16,7 @@ abbrev pub SpellsPutAt : (oid : ℕ) → (at : ℤ) → (bytes : List ℕ) → L
 SpellsPutAt oid (pos at) bytes tokens = SpellsPut oid at bytes tokens
 SpellsPutAt oid (negsuc n) bytes tokens = ⊥
 
--- a request's tokens are those of its printed form
+-- a request's tokens are those of its printed form. No tokens spell the requests that are not read yet
 abbrev pub Spells : Request → List (List ℕ) → Type 0
 Spells Begin tokens = tokens ≡ codes "begin" ∷ []
 Spells Commit tokens = tokens ≡ codes "commit" ∷ []
@@ -28,3 +28,4 @@ Spells (LoCreate oid) tokens = (oid ≤ oid_limit) × (tokens ≡ codes "lo_crea
 Spells (LoPut oid at bytes) tokens = (oid ≤ oid_limit) × SpellsPutAt oid at bytes tokens
 Spells (LoGet oid from length) tokens = (oid ≤ oid_limit) × (tokens ≡ codes "lo_get" ∷ decimal oid ∷ [])
 Spells Vacuum tokens = tokens ≡ codes "vacuum" ∷ []
+Spells _ tokens = ⊥

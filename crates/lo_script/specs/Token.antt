@@ -1,15 +1,32 @@
 -- The tokens of a line and the values that they spell.
+use Rattle.std.specs.Borrow.{Bor}
 use Rattle.std.specs.Prelude.{ℕ, ◌+◌, ◌==◌, ◌&&◌, Bool, false, nat_le, List, [], ◌∷◌, length, take, drop, Option, Some, None, option_and_then, if◌then◌else◌, codes, bytes_eq}
 use Rattle.std.specs.Fmt.{decimal}
 use Rattle.std.specs.List.{slice_split, list_all, find, range_with_len}
+use Rattle.std.specs.Option.{option_map_or}
 use Rattle.std.specs.Result.{result_ok}
 use Rattle.std.specs.Str.Parse.{digits_value}
 use Rattle.hex.specs.Hex.{decode_of}
 use Rattle.lo_base.specs.Name.{starts_name, continues_name}
 
+-- the pieces of a text that is cut at every such byte
+abbrev pub pieces_of : (at : ℕ) → (text : List ℕ) → List (List ℕ)
+pieces_of at text = slice_split (λ b. b == at) text
+
+-- the pieces of what a cut has left, if anything
+abbrev pub pieces_left : (at : ℕ) → Option (Bor (List ℕ)) → List (List ℕ)
+pieces_left at left = option_map_or (λ (r : Bor (List ℕ)). pieces_of at r.now) left []
+
+-- the byte that a text was cut at, and the bytes after it
+abbrev pub length_left : Option (Bor (List ℕ)) → ℕ
+length_left left = option_map_or (λ (r : Bor (List ℕ)). 1 + length r.now) left 0
+
+abbrev pub TokenList : Type 0
+TokenList = List (List ℕ)
+
 -- a line is cut at every space, so two spaces enclose an empty token
-abbrev pub tokens_of : (line : List ℕ) → List (List ℕ)
-tokens_of line = slice_split (λ b. b == 32) line
+abbrev pub tokens_of : (line : List ℕ) → TokenList
+tokens_of line = pieces_of 32 line
 
 -- the number that prints as this token: its value by digits, if that number prints so. Hence no sign, no leading zero
 abbrev pub decimal_of : (token : List ℕ) → Option ℕ

@@ -1,7 +1,7 @@
 use lo_base::NoMemory;
 use thiserror::Error;
 
-/// A place in a script, both numbers from 1. Every line counts, and columns are counted in bytes.
+/// A line of a script and a column in it, both from 1. Every line counts, and columns are counted in bytes.
 #[derive(Clone, Copy, Debug, PartialEq, Eq)]
 pub struct BadLine {
     pub line: u64,
@@ -11,10 +11,11 @@ pub struct BadLine {
 /// Why a script was not read.
 #[derive(Debug, Drop, Error)]
 pub enum ScriptError {
-    /// The script is outside the grammar: the place of the first token that is not allowed after those before it. Where
-    /// a token is missing, the column is the line's length plus 1.
+    /// The script is outside the grammar: where the first token begins that is not allowed after those
+    /// before it. Where a token is missing, the column is the line's length plus 1.
     #[error("line {} column {}", .0.line, .0.column)]
     Bad(BadLine),
+    /// There was no memory for the script. It may be read again.
     #[error("out of memory")]
     NoMemory,
 }

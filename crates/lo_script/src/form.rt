@@ -1,15 +1,18 @@
+// The forms of requests: one reader for each, which takes its arguments token by token. A new form is one arm and one reader
+// here, one line of `forms` in specs/Form.antt, and its printed form in specs/Spelling.antt.
 ghost use Rattle.lo_script.specs.Answer.{Reads};
-ghost use Rattle.lo_script.specs.Form.{no_token, request_of, form_in, large_object_forms, savepoint_of, release_of, rollback_of, create_of, put_of, get_of};
+ghost use Rattle.lo_script.specs.Form.{no_token, request_of, form_in, large_object_forms};
+ghost use Rattle.lo_script.specs.Form.{savepoint_of, release_of, rollback_of, create_of, put_of, get_of};
 
 use crate::error::ScriptError;
 use crate::token::{Token, Tokens};
 use lo_base::Request;
 use std::alloc::Global;
 
-/// The most bytes of a put, and the farthest place that it may begin at.
+/// The most bytes of a put, and the greatest offset that it may begin at.
 const PUT_LIMIT: u32 = 8388608;
 
-/// The request that the tokens spell. Reading stops at the first token that is not allowed after those before it.
+/// The request that the tokens spell. Reading stops at the first token that is not allowed there.
 pub fn read_request(alloc: Global, tokens: &mut Tokens) -> Result<Request, ScriptError>
     ensures { Reads (request_of tokens.old) result }
 {
@@ -86,7 +89,7 @@ fn read_release(alloc: Global, tokens: &mut Tokens) -> Result<Request, ScriptErr
     complete(tokens, Request::Release(name))
 }
 
-/// `lo_create OID`, from the number on.
+/// `lo_create OID`, from the object's number on.
 fn read_create(tokens: &mut Tokens) -> Result<Request, ScriptError>
     ensures { Reads (create_of tokens.old) result }
 {
@@ -94,17 +97,17 @@ fn read_create(tokens: &mut Tokens) -> Result<Request, ScriptError>
     complete(tokens, Request::LoCreate(oid))
 }
 
-/// `lo_put OID INT8 BYTES`, from the number on.
+/// `lo_put OID OFFSET BYTES`, from the object's number on.
 fn read_put(alloc: Global, tokens: &mut Tokens) -> Result<Request, ScriptError>
     ensures { Reads (put_of tokens.old) result }
 {
     let oid = tokens.next()?.number(0, u32::MAX)?;
-    let at = tokens.next()?.number(0, PUT_LIMIT)?;
+    let offset = tokens.next()?.number(0, PUT_LIMIT)?;
     let bytes = tokens.next()?.bytes(alloc, PUT_LIMIT as usize)?;
-    complete(tokens, Request::LoPut(oid, i64::from(at), bytes))
+    complete(tokens, Request::LoPut(oid, i64::from(offset), bytes))
 }
 
-/// `lo_get OID`, from the number on: all bytes of the object.
+/// `lo_get OID`, from the object's number on: all bytes of the object.
 fn read_get(tokens: &mut Tokens) -> Result<Request, ScriptError>
     ensures { Reads (get_of tokens.old) result }
 {

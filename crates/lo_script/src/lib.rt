@@ -1,4 +1,5 @@
-//! The text form of runs: scripts are read into programs and their order, and replies are printed as lines.
+//! The text form of runs: scripts are read into programs and their order, and replies are
+//! printed as lines.
 #![tactic(auto)]
 
 mod error;

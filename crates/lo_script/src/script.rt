@@ -1,3 +1,5 @@
+// A script as a whole: its lines, and whose they are. What a line spells is in form.rt and token.rt. Lines are split as
+// `lines` of specs/Script.antt says, so an end of line is nowhere else looked at.
 ghost use Rattle.std.specs.Prelude.{◌≡◌, ◌<◌, ◌∷◌, length, Some, None, IfOk, IfErr};
 ghost use Rattle.std.specs.Str.Lines.{lines, strip_carriage_return};
 ghost use Rattle.lo_machine.specs.Run.{IsOrderOf};
@@ -11,18 +13,20 @@ use lo_base::{Request, SessionNo};
 use lo_machine::{Programs, Schedule};
 use std::alloc::Global;
 
-/// A script that was read.
+/// A script that was read: what a run is started with.
 #[derive(Drop)]
 pub struct Script {
+    /// The requests of each session, in the order of its lines.
     pub programs: Programs,
     /// The session of each request line, in the order of the lines.
     pub order: Schedule,
 }
 
-/// Reads a script: one request a line, after the mark of its session. Reading stops at the first line outside the grammar.
+/// Reads a script: one request a line, after the mark of its session, such as `B:`. Reading stops at the
+/// first line outside the grammar, which the error names.
 pub fn read_script(alloc: Global, bytes: &[u8]) -> Result<Script, ScriptError>
-    ensures ok { IfOk result (λ script. script_of bytes.now ≡ Some (script_with script.programs script.order)) }
-    ensures order { IfOk result (λ script. IsOrderOf script.programs script.order) }
+    ensures ok { IfOk result (λ s. script_of bytes.now ≡ Some (script_with s.programs s.order)) }
+    ensures order { IfOk result (λ s. IsOrderOf s.programs s.order) }
     ensures bad { IfErr result (λ e. IsBad e → script_of bytes.now ≡ None) }
 {
     let mut programs = Programs::new(alloc)?;

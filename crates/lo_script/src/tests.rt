@@ -1,6 +1,8 @@
+// What no clause says: lines and columns of errors, that calls succeed where there is memory, and printed texts once more. The
+// expected texts are typed from the grammar and the table of replies, never from what the program printed.
 use crate::token::Tokens;
 use crate::{BadLine, ScriptError, read_script, reply_text};
-use lo_base::{Bytes, Cause, Refusal, Reply, Request, SessionNo, Word};
+use lo_base::{Bytes, Cause, Cell, Cells, Ids, Refusal, Reply, Request, SessionNo, Word};
 use std::alloc::Global;
 use std::process::Abort;
 use std::test::Fail;
@@ -157,17 +159,17 @@ const BAD: [(&str, u64, u64); 135] = [
     ("A: begin\r\nA: savepoint a\r\nA: rollback to A\r\n", 3, 16),
 ];
 
-/// The place that the error names.
-fn place_of(e: &ScriptError) -> Option<BadLine> {
+/// The line and the column that the error names.
+fn bad_line_of(e: &ScriptError) -> Option<BadLine> {
     match e {
-        ScriptError::Bad(place) => Some(*place),
+        ScriptError::Bad(start) => Some(*start),
         ScriptError::NoMemory => None,
     }
 }
 
 fn expect_bad(rt: &impl Abort, alloc: Global, text: &[u8], line: u64, column: u64) {
-    let place = read_script(alloc, text).err().and_then(|e| place_of(&e));
-    assert_eq!(rt; place, Some(BadLine { line, column }));
+    let start = read_script(alloc, text).err().and_then(|e| bad_line_of(&e));
+    assert_eq!(rt; start, Some(BadLine { line, column }));
 }
 
 #[test]
@@ -250,8 +252,8 @@ fn each_letter_is_a_session(rt: HostRuntime) -> Result<(), Fail> {
 fn bytes_have_a_limit(rt: HostRuntime) -> Result<(), Fail> {
     let token = Tokens::of(b"\\x4142", 7).next()?;
     assert_eq!(rt; token.bytes(rt.alloc(), 2)?.items(), b"AB".as_slice());
-    let place = token.bytes(rt.alloc(), 1).err().and_then(|e| place_of(&e));
-    assert_eq!(rt; place, Some(BadLine { line: 7, column: 1 }));
+    let start = token.bytes(rt.alloc(), 1).err().and_then(|e| bad_line_of(&e));
+    assert_eq!(rt; start, Some(BadLine { line: 7, column: 1 }));
     Ok(())
 }
 
@@ -270,16 +272,80 @@ fn expect_text(
 }
 
 /// Each fixed word with a session and its printed line.
-const WORDS: [(u8, Word, &str); 8] = [
+const WORDS: [(u8, Word, &str); 15] = [
     (1, Word::Ok, "> A: OK\n"),
     (2, Word::Begin, "> B: BEGIN\n"),
     (3, Word::Commit, "> C: COMMIT\n"),
+    (4, Word::CreateTable, "> D: CREATE TABLE\n"),
+    (5, Word::Insert, "> E: INSERT 1\n"),
+    (6, Word::Update, "> F: UPDATE 1\n"),
+    (7, Word::Delete, "> G: DELETE 1\n"),
+    (8, Word::Declare, "> H: DECLARE\n"),
     (9, Word::Rollback, "> I: ROLLBACK\n"),
+    (10, Word::Close, "> J: CLOSE\n"),
+    (11, Word::Idle, "> K: IDLE\n"),
     (14, Word::Savepoint, "> N: SAVEPOINT\n"),
     (15, Word::Release, "> O: RELEASE\n"),
     (16, Word::Vacuum, "> P: VACUUM\n"),
     (16, Word::Ok, "> P: OK\n"),
 ];
+
+/// Each word that stands with a number, a number, and the printed line of session 1.
+const COUNTS: [(Word, u64, &str); 6] = [
+    (Word::Listed, 12, "> A: LISTED 12\n"),
+    (Word::Scanned, 3, "> A: SCANNED 3\n"),
+    (Word::Removed, 2, "> A: REMOVED 2\n"),
+    (Word::WouldRemove, 0, "> A: WOULD REMOVE 0\n"),
+    (Word::Rewrite, 1000, "> A: REWRITE 1000\n"),
+    (Word::Listed, 18446744073709551615, "> A: LISTED 18446744073709551615\n"),
+];
+
+#[test]
+fn counts_are_printed(rt: HostRuntime) -> Result<(), Fail> {
+    for (what, count, text) in COUNTS.iter() {
+        let reply = Reply::Counted {
+            what: *what,
+            count: *count,
+        };
+        expect_text(&rt, rt.alloc(), 1, &reply, text)?;
+    }
+    let reply = Reply::Stopped {
+        oid: 4294967295,
+        removed: 12,
+    };
+    expect_text(&rt, rt.alloc(), 1, &reply, "> A: STOPPED 4294967295 12\n")
+}
+
+#[test]
+fn rows_are_printed(rt: HostRuntime) -> Result<(), Fail> {
+    let alloc = rt.alloc();
+    let mut row = Cells::new(alloc);
+    row.push(Cell::Int(-9223372036854775808))?;
+    row.push(Cell::Null)?;
+    row.push(Cell::Oid(17000))?;
+    row.push(Cell::Inline(Bytes::from_slice(alloc, b"\x00\xab")?))?;
+    row.push(Cell::Inline(Bytes::new(alloc)))?;
+    row.push(Cell::Text(Bytes::from_slice(alloc, b"[0:1]={NULL,-3}")?))?;
+    expect_text(
+        &rt,
+        alloc,
+        2,
+        &Reply::Row(row),
+        "> B: ROW -9223372036854775808 null 17000 \\x00ab \\x [0:1]={NULL,-3}\n",
+    )?;
+    let ids = Ids::from_slice(alloc, &[-2, 0, 9223372036854775807])?;
+    expect_text(
+        &rt,
+        alloc,
+        2,
+        &Reply::Ids(ids),
+        "> B: IDS -2 0 9223372036854775807\n",
+    )?;
+    expect_text(&rt, alloc, 2, &Reply::Ids(Ids::new(alloc)), "> B: IDS\n")?;
+    expect_text(&rt, alloc, 2, &Reply::Nothing, "> B: null\n")?;
+    let text = Bytes::from_slice(alloc, b"{1,NULL}")?;
+    expect_text(&rt, alloc, 2, &Reply::Text(text), "> B: {1,NULL}\n")
+}
 
 #[test]
 fn words_are_printed(rt: HostRuntime) -> Result<(), Fail> {

@@ -1,8 +1,11 @@
-ghost use Rattle.std.specs.Prelude.{◌≡◌, ◌≢◌, ◌↔◌, IsTrue, ◌+◌, ◌<◌, ◌≤◌, ◌==◌, [], ◌∷◌, length, bytes_eq, IfOk, IfErr, OnOk, IfSome};
-ghost use Rattle.std.specs.List.{slice_split, position};
-ghost use Rattle.std.specs.Option.{option_map_or};
+// The tokens of one line, and the values that they spell: a token stands between single spaces. Forms are in form.rt; a new
+// kind of token gets a method of `Token` here, with the definition of what it spells in specs/Token.antt.
+ghost use Rattle.std.specs.Prelude.{◌≡◌, ◌≢◌, ◌↔◌, IsTrue, ◌+◌, ◌<◌, ◌==◌, [], ◌∷◌};
+ghost use Rattle.std.specs.Prelude.{length, bytes_eq, IfOk, IfErr, OnOk, IfSome};
+ghost use Rattle.std.specs.List.{position};
 ghost use Rattle.lo_script.specs.Answer.{IsBad, Reads};
-ghost use Rattle.lo_script.specs.Token.{tokens_of, keyword_of, session_of, number_of, name_of, bytes_of};
+ghost use Rattle.lo_script.specs.Token.{tokens_of, pieces_of, pieces_left, length_left};
+ghost use Rattle.lo_script.specs.Token.{keyword_of, session_of, number_of, name_of, bytes_of};
 
 use crate::error::{BadLine, ScriptError};
 use hex::FromHexError;
@@ -34,11 +37,11 @@ impl<'a> Model for Tokens<'a> {
     ghost invariant = { λ t. option_map_or (λ rest. length rest.now) t.rest 0 ≤ length t.line.now };
 }
 
-/// A token and its place.
+/// A token and where it begins.
 #[derive(Clone, Copy)]
 pub struct Token<'a> {
     text: &'a [u8],
-    place: BadLine,
+    start: BadLine,
 }
 
 impl<'a> Tokens<'a> {
@@ -58,13 +61,13 @@ impl<'a> Tokens<'a> {
         ensures ok { IfOk result (λ token. self.old ≡ token.text.now ∷ self.new) }
         ensures bad { IfErr result (λ e. IsBad e → self.old ≡ []) }
     {
-        let place = self.place();
+        let start = self.start();
         let Some(rest) = self.rest else {
-            return Err(ScriptError::Bad(place));
+            return Err(ScriptError::Bad(start));
         };
         let (text, after) = cut(rest, b' ');
         self.rest = after;
-        Ok(Token { text, place })
+        Ok(Token { text, start })
     }
 
     /// Checks that no token is left.
@@ -75,7 +78,7 @@ impl<'a> Tokens<'a> {
         if self.is_at_end() {
             Ok(())
         } else {
-            Err(ScriptError::Bad(self.place()))
+            Err(ScriptError::Bad(self.start()))
         }
     }
 
@@ -86,8 +89,8 @@ impl<'a> Tokens<'a> {
         self.rest.is_none()
     }
 
-    /// The place of the next token, or of the line's end where none is left.
-    fn place(&self) -> BadLine {
+    /// The line and the column of the next token, or of the line's end where none is left.
+    fn start(&self) -> BadLine {
         let left = self.rest.map_or(0, |rest| rest.len());
         BadLine {
             line: self.number,
@@ -101,7 +104,7 @@ impl Token<'_> {
     pub fn refused(&self) -> ScriptError
         ensures { IsBad result }
     {
-        ScriptError::Bad(self.place)
+        ScriptError::Bad(self.start)
     }
 
     /// Whether the token is that word.
@@ -143,7 +146,7 @@ impl Token<'_> {
     }
 
     /// A savepoint's name.
-    #[tactic(auto, using(crate::proofs::Words::spelled_name, crate::proofs::Words::no_name))]
+    #[tactic(auto, using(crate::proofs::MarksAndNames::spelled_name, crate::proofs::MarksAndNames::no_name))]
     pub fn name(&self, alloc: Global) -> Result<Name, ScriptError>
         ensures { Reads (name_of self.now.text.now) result }
     {
@@ -195,19 +198,19 @@ fn decimal(token: &[u8]) -> Option<u32>
 }
 
 /// What stands before the first `at`, and what stands after it, if there is one.
-pub fn cut(bytes: &[u8], at: u8) -> (&[u8], Option<&[u8]>)
-    ensures parts { slice_split (λ b. b == at) bytes.now ≡ result.0.now ∷ option_map_or (λ rest. slice_split (λ b. b == at) rest.now) result.1 [] }
-    ensures whole { option_map_or (λ rest. length result.0.now + 1 + length rest.now) result.1 (length result.0.now) ≡ length bytes.now }
+pub fn cut(text: &[u8], at: u8) -> (&[u8], Option<&[u8]>)
+    ensures parts { pieces_of at text.now ≡ result.0.now ∷ pieces_left at result.1 }
+    ensures whole { length result.0.now + length_left result.1 ≡ length text.now }
 {
-    match first_place(bytes, at) {
-        Some(end) => (&bytes[..end], Some(&bytes[end + 1..])),
-        None => (bytes, None),
+    match first_index(text, at) {
+        Some(end) => (&text[..end], Some(&text[end + 1..])),
+        None => (text, None),
     }
 }
 
-/// The place of the first `at`, if there is one.
-fn first_place(bytes: &[u8], at: u8) -> Option<usize>
-    ensures { result ≡ position (λ b. b == at) bytes.now }
+/// The index of the first `at`, if there is one.
+fn first_index(text: &[u8], at: u8) -> Option<usize>
+    ensures { result ≡ position (λ b. b == at) text.now }
 {
-    bytes.iter().position(|b| *b == at)
+    text.iter().position(|b| *b == at)
 }

@@ -1,5 +1,5 @@
-use Rattle.lo_script.proofs.Numbers.{decimal_of-decimal}
-use Rattle.lo_script.proofs.Spellings.{request-some, request-spelled}
+use Rattle.lo_script.proofs.DecimalsAndBytes.{decimal_of-decimal}
+use Rattle.lo_script.proofs.SpelledRequests.{request-some, request-spelled}
 use Rattle.lo_script.proofs.law.tokens_spell.Goals as goal
 
 pub returns-clause-read : goal.returns-clause-read

@@ -1,7 +1,7 @@
 use Rattle.std.proofs.Common.{sym}
 use Rattle.std.proofs.lemmas.List.{take-append-drop}
 use Rattle.std.proofs.lemmas.Result.{err_from_is_err_and}
-use Rattle.lo_script.proofs.Printing.{nothing_printed, piece_printed, front_printed}
+use Rattle.lo_script.proofs.PrintedFronts.{nothing_printed, piece_printed, front_printed}
 use Rattle.lo_script.proofs.reply.append_hex.Goals as goal
 
 pub loop-rest-init : goal.loop-rest-init

@@ -1,5 +1,5 @@
 use Rattle.std.proofs.Common.{length}
-use Rattle.lo_script.proofs.Printing.{Printed}
+use Rattle.lo_script.proofs.PrintedFronts.{Printed}
 use Rattle.lo_script.proofs.reply.append_hex.Given as goal
 
 abbrev pub invariant-loop-rest : goal.invariant-loop-rest

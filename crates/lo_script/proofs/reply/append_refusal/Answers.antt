@@ -6,7 +6,7 @@ use Rattle.lo_base.specs.Cause.{code_of}
 use Rattle.lo_base.specs.Code.{sqlstate_of}
 use Rattle.lo_base.specs.Refusal.{text_of}
 use Rattle.lo_base.proofs.Fronts.{front_appended}
-use Rattle.lo_script.proofs.Printing.{front_at_end, two_appended}
+use Rattle.lo_script.proofs.PrintedFronts.{front_at_end, two_appended}
 use Rattle.lo_script.proofs.reply.append_refusal.Goals as goal
 
 pub returns-in_err-extend-2-clause-err : goal.returns-in_err-extend-2-clause-err

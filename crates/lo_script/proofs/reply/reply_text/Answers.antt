@@ -4,7 +4,7 @@ use Rattle.std.proofs.lemmas.Result.{err_from_is_err_and, on_err_weaker}
 use Rattle.lo_base.proofs.Fronts.{front_appended}
 use Rattle.lo_script.specs.Token.{mark_of}
 use Rattle.lo_script.specs.ReplyText.{text_of}
-use Rattle.lo_script.proofs.Printing.{front_after, two_appended}
+use Rattle.lo_script.proofs.PrintedFronts.{front_after, two_appended}
 use Rattle.lo_script.proofs.reply.reply_text.Goals as goal
 
 pub returns-in_err-append_reply-clause-err : goal.returns-in_err-append_reply-clause-err

@@ -1,4 +1,4 @@
-use Rattle.lo_script.proofs.Lines.{first_of_lines}
+use Rattle.lo_script.proofs.CutTexts.{first_of_lines}
 use Rattle.lo_script.proofs.script.first_line.Goals as goal
 
 pub returns-in-Some-clause-lines : goal.returns-in-Some-clause-lines

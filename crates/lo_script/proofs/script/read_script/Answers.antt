@@ -2,8 +2,8 @@ use Rattle.std.proofs.Common.{◌≡◌, ℕ, List, [], ◌∷◌, length, Some,
 use Rattle.std.specs.Str.Lines.{lines}
 use Rattle.std.proofs.lemmas.Bool.Decides.{nat_tests}
 use Rattle.lo_script.specs.Script.{ScriptText, with_lines, script_with}
-use Rattle.lo_script.proofs.Ordered.{script-ordered}
-use Rattle.lo_script.proofs.Spellings.{entry-spelled}
+use Rattle.lo_script.proofs.ScriptOrder.{script-ordered}
+use Rattle.lo_script.proofs.SpelledRequests.{entry-spelled}
 use Rattle.lo_script.proofs.script.read_script.Goals as goal
 
 pub loop-rest-init : goal.loop-rest-init

@@ -1,5 +1,5 @@
 use Rattle.std.proofs.Common.{◌≡◌, sym, ◌∙◌, rules}
-use Rattle.lo_script.proofs.Numbers.{not_parsed, other_parsed, parsed, no_text}
+use Rattle.lo_script.proofs.DecimalsAndBytes.{not_parsed, other_parsed, parsed, no_text}
 use Rattle.lo_script.proofs.token.decimal.Goals as goal
 
 pub returns-in_err-ok : goal.returns-in_err-ok

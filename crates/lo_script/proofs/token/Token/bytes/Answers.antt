@@ -1,4 +1,4 @@
-use Rattle.lo_script.proofs.Numbers.{too_many_digits, enough_digits}
+use Rattle.lo_script.proofs.DecimalsAndBytes.{too_many_digits, enough_digits}
 use Rattle.lo_script.proofs.token.Token.bytes.Goals as goal
 
 pub returns-then-digits-most : goal.returns-then-digits-most

@@ -1,6 +1,6 @@
 use Rattle.std.proofs.Common.{◌==◌}
 use Rattle.lo_script.specs.Token.{tokens_of}
-use Rattle.lo_script.proofs.Lines.{no_rest, slice_split-not_nil}
+use Rattle.lo_script.proofs.CutTexts.{no_rest, slice_split-not_nil}
 use Rattle.lo_script.proofs.token.Tokens.is_at_end.Goals as goal
 
 pub returns : goal.returns

@@ -13,9 +13,9 @@ use Rattle.lo_machine.specs.Run.{IsOrderOf}
 use Rattle.lo_script.specs.Token.{session_of, tokens_of}
 use Rattle.lo_script.specs.Form.{request_of}
 use Rattle.lo_script.specs.Script.{ScriptText, script_with, entry_of, all_of, with_entry, with_entries, script_of, is_request_line}
-use Rattle.lo_script.proofs.Numbers.{tested, some_injective}
-use Rattle.lo_script.proofs.Spellings.{first_token-some, map-some, and_then-some}
-use Rattle.lo_script.proofs.Words.{session-some}
+use Rattle.lo_script.proofs.DecimalsAndBytes.{tested, some_injective}
+use Rattle.lo_script.proofs.SpelledRequests.{first_token-some, map-some, and_then-some}
+use Rattle.lo_script.proofs.MarksAndNames.{session-some}
 
 abbrev Entry : Type 0
 Entry = ℕ × Request

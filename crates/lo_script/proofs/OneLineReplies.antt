@@ -3,6 +3,7 @@ use Rattle.std.proofs.Common.{◌≡◌, ◌≢◌, ℕ, zero, suc, ◌/◌, ◌
 use Rattle.std.specs.Prelude.{All, Option, Some, None, ℤ, pos, negsuc, codes, slice_index, nat_lt}
 use Rattle.std.specs.Fmt.{decimal, signed_decimal, digits, digits_onto, digit_glyph}
 use Rattle.std.proofs.lemmas.Bool.Decides.{nat_tests}
+use Rattle.std.specs.List.{AllByRecursion}
 use Rattle.std.proofs.lemmas.List.{get_or_past}
 use Rattle.std.proofs.lemmas.List.Elements.{All-nil, All-cons, All-append}
 use Rattle.hex.specs.Hex.{encode_with, encode_lower, lower_digits}
@@ -12,17 +13,16 @@ use Rattle.lo_base.specs.declared.refusal.Code.{Code}
 use Rattle.lo_base.specs.declared.refusal.Code.TheVariants.{C25P02}
 use Rattle.lo_base.specs.declared.refusal.Refusal.{Refusal}
 use Rattle.lo_base.specs.declared.reply.Reply.{Reply}
-use Rattle.lo_base.specs.declared.reply.Reply.TheVariants.{Word, Number, Content, Refused}
+use Rattle.lo_base.specs.declared.reply.Reply.TheVariants.{Word, Number, Content, Nothing, Row, Ids, Text, Counted, Stopped, Refused}
+use Rattle.lo_base.specs.declared.value.Cell.{Cell}
+use Rattle.lo_base.specs.declared.value.Cell.TheVariants as cells
 use Rattle.lo_base.specs.declared.reply.Word.{Word as FixedWord}
 use Rattle.lo_base.specs.declared.reply.Word.TheVariants.{Ok}
 use Rattle.lo_base.specs.Cause.{code_of, opening_of, ending_of}
 use Rattle.lo_base.specs.Code.{sqlstate_of}
 use Rattle.lo_base.specs.Refusal.{numbered}
-use Rattle.lo_script.specs.ReplyText.{word_text, text_of, error_text}
-use Rattle.lo_script.proofs.Numbers.{tested}
-
-abbrev IsOneLine : List ℕ → Type 0
-IsOneLine text = All (λ b. b ≢ 10) text
+use Rattle.lo_script.specs.ReplyText.{word_text, bytes_text, cell_text, after_space, spaced, counted_text, stopped_text, text_of, error_text, IsOneLine, IsOneLineCell, HasOneLineArrays}
+use Rattle.lo_script.proofs.DecimalsAndBytes.{tested}
 
 -- a test that computes
 abbrev is_one_line : List ℕ → Bool
@@ -112,8 +112,56 @@ refusal-one_line refusal =
     let text = both (opening_of refusal.cause) (numbered refusal.subject (ending_of refusal.cause)) opening ending in
     both (codes "ERROR " ++ sqlstate_of (code_of refusal.cause) ++ codes ": ") (opening_of refusal.cause ++ numbered refusal.subject (ending_of refusal.cause)) coded text
 
-pub text_of-one_line : (reply : Reply) → IsOneLine (text_of reply)
-text_of-one_line (Word word) = from_test (word_text word) (word-one_line word)
-text_of-one_line (Number n) = signed_decimal-one_line n
-text_of-one_line (Content bytes) = both (codes "\\x") (encode_lower bytes) (from_test (codes "\\x") refl) (encode-one_line bytes)
-text_of-one_line (Refused refusal) = refusal-one_line refusal
+word_text-one_line : (word : FixedWord) → IsOneLine (word_text word)
+word_text-one_line word = from_test (word_text word) (word-one_line word)
+
+bytes_text-one_line : (bytes : List ℕ) → IsOneLine (bytes_text bytes)
+bytes_text-one_line bytes = both (codes "\\x") (encode_lower bytes) (from_test (codes "\\x") refl) (encode-one_line bytes)
+
+cell_text-one_line : (cell : Cell) → IsOneLineCell cell → IsOneLine (cell_text cell)
+cell_text-one_line cells.Null h = from_test (codes "null") refl
+cell_text-one_line (cells.Int n) h = signed_decimal-one_line n
+cell_text-one_line (cells.Oid oid) h = decimal-one_line oid
+cell_text-one_line (cells.Inline bytes) h = bytes_text-one_line bytes
+cell_text-one_line (cells.Text text) h = h
+cell_text-one_line (cells.Outside length value) h = All-nil (λ b. b ≢ 10)
+
+-- a word before more
+after_word : (word more : List ℕ) → is_one_line word ≡ true → IsOneLine more → IsOneLine (word ++ more)
+after_word word more h k = both word more (from_test word h) k
+
+row-one_line : (row : List Cell) → AllByRecursion IsOneLineCell row → IsOneLine (spaced cell_text row)
+row-one_line [] h = All-nil (λ b. b ≢ 10)
+row-one_line (cell ∷ more) h =
+    after_word (codes " ") (cell_text cell ++ spaced cell_text more) refl
+    (both (cell_text cell) (spaced cell_text more) (cell_text-one_line cell h.0) (row-one_line more h.1))
+
+ids-one_line : (ids : List ℤ) → IsOneLine (spaced signed_decimal ids)
+ids-one_line [] = All-nil (λ b. b ≢ 10)
+ids-one_line (n ∷ more) =
+    after_word (codes " ") (signed_decimal n ++ spaced signed_decimal more) refl
+    (both (signed_decimal n) (spaced signed_decimal more) (signed_decimal-one_line n) (ids-one_line more))
+
+after_space-one_line : (text : List ℕ) → IsOneLine text → IsOneLine (after_space text)
+after_space-one_line text h = after_word (codes " ") text refl h
+
+counted-one_line : (what : FixedWord) (count : ℕ) → IsOneLine (counted_text what count)
+counted-one_line what count =
+    both (word_text what) (after_space (decimal count)) (word_text-one_line what) (after_space-one_line (decimal count) (decimal-one_line count))
+
+stopped-one_line : (oid removed : ℕ) → IsOneLine (stopped_text oid removed)
+stopped-one_line oid removed =
+    after_word (codes "STOPPED ") (decimal oid ++ after_space (decimal removed)) refl
+    (both (decimal oid) (after_space (decimal removed)) (decimal-one_line oid) (after_space-one_line (decimal removed) (decimal-one_line removed)))
+
+pub text_of-one_line : (reply : Reply) → HasOneLineArrays reply → IsOneLine (text_of reply)
+text_of-one_line (Word word) h = word_text-one_line word
+text_of-one_line (Number n) h = signed_decimal-one_line n
+text_of-one_line (Content bytes) h = bytes_text-one_line bytes
+text_of-one_line Nothing h = from_test (codes "null") refl
+text_of-one_line (Row row) h = after_word (codes "ROW") (spaced cell_text row) refl (row-one_line row h)
+text_of-one_line (Ids ids) h = after_word (codes "IDS") (spaced signed_decimal ids) refl (ids-one_line ids)
+text_of-one_line (Text text) h = h
+text_of-one_line (Counted what count) h = counted-one_line what count
+text_of-one_line (Stopped oid removed) h = stopped-one_line oid removed
+text_of-one_line (Refused refusal) h = refusal-one_line refusal

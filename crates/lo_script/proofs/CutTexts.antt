@@ -19,7 +19,7 @@ pub lines_of_parts-more : (x : List ℕ) (parts : List (List ℕ)) → 0 < lengt
 lines_of_parts-more x [] some = absurd (omega arith)
 lines_of_parts-more x (y ∷ more) some = refl
 
--- the first part of a cut, by the first place at which the test passes
+-- the first part of a cut, by the first index at which the test passes
 pub slice_split-at_position : {X : Type 0} (p : X → Bool) (xs : List X) (i : ℕ) (d : X) → position p xs ≡ Some i → slice_split p xs ≡ take i xs ∷ slice_split p (drop (i + 1) xs)
 slice_split-at_position p xs i d h =
     let found = position-Some p xs i d h in

@@ -7,7 +7,7 @@ use Rattle.std.proofs.lemmas.List.Sums.{AllPass-from_list_all, list_all-from_All
 use Rattle.std.proofs.lemmas.Slice.Eq.{bytes_eq-Decides}
 use Rattle.lo_base.specs.Name.{IsName, starts_name, continues_name}
 use Rattle.lo_script.specs.Token.{is_name, name_of, keyword_of, mark_of, session_of}
-use Rattle.lo_script.proofs.Numbers.{tested, some_injective}
+use Rattle.lo_script.proofs.DecimalsAndBytes.{tested, some_injective}
 
 -- the first of some numbers that passes a test is one of them
 first_in : (test : ℕ → Bool) (a n s : ℕ) → find test (range_with_len a n) ≡ Some s → (a ≤ s) × (s < a + n)

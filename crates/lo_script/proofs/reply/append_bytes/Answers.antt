@@ -2,8 +2,8 @@ use Rattle.std.proofs.Common.{refl}
 use Rattle.std.specs.Prelude.{codes}
 use Rattle.std.proofs.lemmas.Result.{on_err_weaker}
 use Rattle.hex.specs.Hex.{encode_lower}
-use Rattle.lo_script.proofs.Printing.{front_at_end}
-use Rattle.lo_script.proofs.reply.append_content.Goals as goal
+use Rattle.lo_script.proofs.PrintedFronts.{front_at_end}
+use Rattle.lo_script.proofs.reply.append_bytes.Goals as goal
 
 pub returns-clause-err : goal.returns-clause-err
 returns-clause-err c =

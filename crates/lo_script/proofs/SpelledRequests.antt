@@ -5,13 +5,13 @@ use Rattle.std.specs.List.{AllByRecursion}
 use Rattle.std.proofs.lemmas.Slice.Eq.{bytes_eq-Decides}
 use Rattle.lo_base.specs.declared.request.Request.{Request}
 use Rattle.lo_base.specs.declared.request.Request.TheVariants.{Begin, Commit, Rollback, Savepoint, Release, RollbackTo, LoCreate, LoPut, LoGet, Vacuum}
-use Rattle.lo_machine.specs.Spelled.{IsSpelled, put_limit}
+use Rattle.lo_machine.specs.Served.{IsServed, put_limit}
 use Rattle.lo_script.specs.Token.{number_of, bytes_of, name_of, keyword_of, session_of, tokens_of}
 use Rattle.lo_script.specs.Form.{Form, first_token, no_token, one_token, two_tokens, three_tokens, none_or, savepoint_of, release_of, rollback_of, create_of, put_of, get_of, forms, large_object_forms, form_in, request_of, oid_limit}
 use Rattle.lo_script.specs.Spelling.{Spells}
 use Rattle.lo_script.specs.Script.{entry_of}
-use Rattle.lo_script.proofs.Numbers.{Prints, PrintsBytes, tested, some_injective, number_of-prints, number_of-decimal, bytes_of-prints, bytes_of-spelled}
-use Rattle.lo_script.proofs.Words.{name_of-prints, spelled_name, keyword_of-is}
+use Rattle.lo_script.proofs.DecimalsAndBytes.{Prints, PrintsBytes, tested, some_injective, number_of-prints, number_of-decimal, bytes_of-prints, bytes_of-spelled}
+use Rattle.lo_script.proofs.MarksAndNames.{name_of-prints, spelled_name, keyword_of-is}
 
 -- a first token that spells a value
 pub record First {A R : Type 0} (value : List ℕ → Option A) (others : A → List (List ℕ) → Option R) (tokens : List (List ℕ)) (r : R) : Type 0 where
@@ -71,7 +71,7 @@ three_tokens-finds Has first second third make h =
 
 -- a request with the tokens of its printed form, the first of them apart
 abbrev IsPrinted : (word : List ℕ) → (arguments : List (List ℕ)) → Request → Type 0
-IsPrinted word arguments r = IsSpelled r × Spells r (word ∷ arguments)
+IsPrinted word arguments r = IsServed r × Spells r (word ∷ arguments)
 
 -- each request that the form gives is spelled so
 abbrev IsExact : Form → Type 0
@@ -132,18 +132,18 @@ form_in-some (f ∷ more) exact word arguments r h = elim (tested (bytes_eq word
   | inr other ↦ form_in-some more exact.1 word arguments r (rw other at h)
 ]
 
-pub request-some : (tokens : List (List ℕ)) (r : Request) → request_of tokens ≡ Some r → IsSpelled r × Spells r tokens
+pub request-some : (tokens : List (List ℕ)) (r : Request) → request_of tokens ≡ Some r → IsServed r × Spells r tokens
 request-some [] r h = cc h
 request-some (word ∷ arguments) r h = form_in-some forms all-exact word arguments r h
 
-pub entry-spelled : (line : List ℕ) (s : ℕ) (r : Request) → entry_of line ≡ Some (s, r) → IsSpelled r
+pub entry-spelled : (line : List ℕ) (s : ℕ) (r : Request) → entry_of line ≡ Some (s, r) → IsServed r
 entry-spelled line s r h =
     let f = first_token-some session_of (λ session tokens. option_map (λ request. (session, request)) (request_of tokens)) (tokens_of line) (s, r) h in
     let m = map-some (λ request. (f.a, request)) (request_of f.more) (s, r) f.left in
     let same : m.0 ≡ r = ap (λ (entry : ℕ × Request). entry.1) m.2 in
     rw (← same) (request-some f.more m.0 m.1).0
 
-pub request-spelled : (tokens : List (List ℕ)) (r : Request) → IsSpelled r × Spells r tokens → request_of tokens ≡ Some r
+pub request-spelled : (tokens : List (List ℕ)) (r : Request) → IsServed r × Spells r tokens → request_of tokens ≡ Some r
 request-spelled tokens Begin h = rw h.1 refl
 request-spelled tokens Commit h = rw h.1 refl
 request-spelled tokens Rollback h = rw h.1 refl
@@ -158,3 +158,4 @@ request-spelled tokens (LoPut oid (pos at) bytes) h =
 request-spelled tokens (LoPut oid (negsuc at) bytes) h = absurd h.0.0
 request-spelled tokens (LoGet oid from None) h = rw (h.0, h.1.1, number_of-decimal 0 oid_limit oid (omega (arith, h.1.0)) (omega arith) h.1.0) refl
 request-spelled tokens (LoGet oid from (Some length)) h = absurd h.0
+request-spelled tokens other h = absurd h.0
