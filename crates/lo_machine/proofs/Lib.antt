@@ -1,12 +1,12 @@
-pub mod Acting
-pub mod Changing
 mod Examples
-pub mod Keeping
-pub mod Laying
-pub mod Lines
-pub mod Naming
+pub mod KeptEdits
+pub mod NewestLevel
+pub mod ObjectRequests
 pub mod Orders
-pub mod Replaying
-pub mod Serving
-pub mod Standing
-pub mod Stepping
+pub mod Overlays
+pub mod ReplayedRuns
+pub mod ScriptLines
+pub mod ServedRows
+pub mod StandingEdits
+pub mod Steps
+pub mod TransactionRequests

@@ -11,8 +11,8 @@ use Rattle.lo_base.specs.declared.request.Request.{Request}
 use Rattle.lo_machine.specs.Program.{program_of}
 use Rattle.lo_machine.specs.Served.{IsServed, AreServed}
 use Rattle.lo_machine.specs.Run.{Moment, start, next_line, one_more, moment_after, end_from, IsPlayable, IsWholeFrom, IsWhole, IsOrderOf, acts_before, line_schedule, schedule_of_line, schedule_from, schedule_of}
-use Rattle.lo_machine.proofs.Lines.{Runs, line_runs}
-use Rattle.lo_machine.proofs.Replaying.{moves_on}
+use Rattle.lo_machine.proofs.ScriptLines.{Runs, line_runs}
+use Rattle.lo_machine.proofs.ReplayedRuns.{moves_on}
 
 record IsThe {X : Type 0} (line : Option X) : Type 0 where
   item : X

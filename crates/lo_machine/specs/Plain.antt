@@ -1,5 +1,5 @@
 -- What the present engine does, over the parts of a state that it keeps: edits and transaction blocks. For the requests that
--- are served it is the step of the whole state (proofs/Serving). It goes away with this engine.
+-- are served it is the step of the whole state (proofs/ServedRows). It goes away with this engine.
 use Rattle.std.specs.Prelude.{ℕ, ℤ, pos, negsuc, ◌+◌, ◌-◌, ◌==◌, Bool, true, false, not, ◌&&◌, nat_lt, List, [], ◌∷◌, ◌++◌, length, take, drop, Option, Some, None, if◌then◌else◌}
 use Rattle.lo_base.specs.declared.reply.Reply.{Reply}
 use Rattle.lo_base.specs.declared.reply.Reply.TheVariants.{Word, Number, Content, Refused}

@@ -1,3 +1,4 @@
+// The transaction blocks of all sessions over xact_core: which levels each has, and whether it is failed. No edit is kept here.
 ghost use Rattle.std.specs.Prelude.{◌≡◌, ◌≢◌, ℕ, true, false, ◌+◌, ◌-◌, ◌<◌, ◌≤◌, ◌^◌, [], ◌∷◌, ◌++◌, Some, length, take, replicate, IfOk, IfSome, OnOk};
 ghost use Rattle.lo_machine.specs.Counts.{HasCounts, IsReady};
 
@@ -21,11 +22,12 @@ impl Blocks {
     ghost use Rattle.xact_core.specs.Ends.{same, release, undo, commit_at};
     ghost use Rattle.xact_core.specs.Stamp.{owner_of};
     ghost use Rattle.xact_core.specs.declared.stamp.Stamp.{Stamp};
-    ghost use Rattle.xact_core.specs.Transactions.{levels_of};
+    ghost use Rattle.xact_core.specs.Transactions.{beginning, levels_of};
 
     /// No session has a block, and the clock is 0.
     pub fn new(alloc: Global) -> Result<Blocks, NoMemory>
-        ensures { IfOk result (λ b. (b.xacts ≡ record { clock = 0; undos = 0; levels = replicate 16 []; fates = []; held = [] }) × (b.failed.items ≡ replicate 16 false)) }
+        ensures xacts { IfOk result (λ b. b.xacts ≡ beginning) }
+        ensures failed { IfOk result (λ b. b.failed.items ≡ replicate 16 false) }
     {
         let xacts = Xacts::new(alloc)?;
         let mut failed = Vec::new(alloc);

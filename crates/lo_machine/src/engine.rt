@@ -1,10 +1,13 @@
+// The engine: one function for each request that is served, over the transaction blocks (blocks.rt) and the changes of objects
+// (change.rt, scan.rt). Another store replaces both behind the same contract of `step`.
 ghost use Rattle.std.specs.Prelude.{◌≡◌, pos, false, ◌<◌, ◌≤◌, length, IfOk, OnOk};
 ghost use Rattle.lo_machine.specs.Served.{IsPutOffset};
 ghost use Rattle.lo_machine.specs.Plain.{may_recover, offset_of};
 
 use crate::blocks::Blocks;
-use crate::change::{Change, StampedChange, content, exists, holder};
+use crate::change::{Change, StampedChange};
 use crate::history::History;
+use crate::scan::{content, exists, holder};
 use lo_base::{Bytes, Cause, Name, NoMemory, Oid, Refusal, Reply, Request, SessionNo, Word};
 use std::alloc::Global;
 use xact_core::Snapshot;

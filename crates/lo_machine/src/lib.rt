@@ -10,6 +10,7 @@ mod law;
 mod object;
 mod programs;
 mod running;
+mod scan;
 #[cfg(test)]
 mod tests;
 

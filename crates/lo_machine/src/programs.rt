@@ -1,6 +1,7 @@
+// Programs: one list of requests for each session. The type keeps which requests can stand in them.
 ghost use Rattle.std.specs.Prelude.{◌≡◌, ◌-◌, List, [], ◌∷◌, ◌++◌, replicate, All, IfOk, OnOk, OnErr, slice_set};
 ghost use Rattle.lo_machine.specs.Program.{program_of};
-ghost use Rattle.lo_machine.specs.Served.{IsServed};
+ghost use Rattle.lo_machine.specs.Served.{IsServed, AreServed};
 
 use lo_base::{ListOf, NoMemory, Request, Requests, SESSIONS, SessionNo};
 use std::alloc::Global;
@@ -53,6 +54,13 @@ impl Programs {
         ensures served { All IsServed result.now }
     {
         self.lists[s.place()].items()
+    }
+
+    /// That all requests are among those served so far. No code runs but a look at the lists.
+    pub fn served(&self)
+        ensures { AreServed self.now }
+    {
+        let _ = &self.lists;
     }
 
     /// Hands out the session's program and leaves it empty.

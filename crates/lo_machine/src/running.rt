@@ -1,3 +1,5 @@
+// A run: programs, the schedule so far, the replies, and the engine. The type keeps that replaying gives the replies; the
+// engine is called in one place, `advance`.
 ghost use Rattle.std.specs.Prelude.{◌≡◌, ◌≤◌, ◌+◌, List, [], length, IsTrue, IsFalse, IfOk, OnOk, OnErr};
 ghost use Rattle.lo_machine.specs.Program.{program_of};
 ghost use Rattle.lo_machine.specs.Replay.{Play, HasLine, Replays, Advances, moment_of};
@@ -72,7 +74,7 @@ impl Running {
         self.lines_done[s.place()] >= self.programs.lines(s).len()
     }
 
-    /// The place of the session's next line in its program, from 1: one more than the program's length where the session
+    /// The number of the session's next line in its program, from 1: one more than the program's length where the session
     /// is done.
     pub fn line(&self, s: SessionNo) -> u64
         ensures { result ≡ (moment_of self.now).lines_done s + 1 }
@@ -83,8 +85,7 @@ impl Running {
         done as u64 + 1
     }
 
-    /// Does the session's next line. After want of memory programs, schedule and replies are as before; where it was the
-    /// engine that found none, every later advance finds none.
+    /// Does the session's next line. After want of memory programs, schedule and replies are as before.
     pub fn advance(&mut self, s: SessionNo) -> Result<(), NoMemory>
         requires { HasLine self.old s }
         ensures ok { OnOk result (Advances s self.old self.new) }

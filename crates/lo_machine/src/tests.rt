@@ -1,3 +1,4 @@
+// What no clause says: the calls of the engine and of a run with ample memory.
 use crate::{Engine, Programs, Running};
 use lo_base::{Bytes, Cause, ListOf, Refusal, Reply, Request, SessionNo, Word};
 use std::test::Fail;

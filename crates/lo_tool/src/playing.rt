@@ -7,7 +7,7 @@ ghost use Rattle.lo_tool.specs.Reading.{RunsBytes};
 use crate::stop::Stop;
 use crate::text::{bad_line_text, line_about};
 use lo_base::{Bytes, NoMemory, Reply, SessionNo};
-use lo_machine::{Finished, Running, orders_are_whole};
+use lo_machine::{Finished, Running, orders_are_whole, served_lines_take_one_advance};
 use lo_script::{Script, ScriptError, read_script, reply_text};
 use std::alloc::Global;
 
@@ -34,6 +34,8 @@ fn play(alloc: Global, script: Script) -> Result<Finished, NoMemory>
         finished.replies ≡ replies_of script.programs (schedule_of script.programs script.order)) }
 {
     orders_are_whole();
+    served_lines_take_one_advance();
+    script.programs.served();
     let mut running = Running::start(alloc, script.programs)?;
     for s in script.order.items() {
         running.advance(*s)?;

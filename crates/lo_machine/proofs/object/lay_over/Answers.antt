@@ -1,7 +1,7 @@
 use Rattle.std.proofs.Common.{◌≡◌, ℕ, ◌+◌, List, ◌++◌, length, take, drop, rules, ap, ◌∙◌}
 use Rattle.std.specs.Prelude.{max}
 use Rattle.lo_model.specs.Object.{at_size}
-use Rattle.lo_machine.proofs.Laying.{laid}
+use Rattle.lo_machine.proofs.Overlays.{laid}
 use Rattle.lo_machine.proofs.object.lay_over.Goals as goal
 
 pub returns : goal.returns

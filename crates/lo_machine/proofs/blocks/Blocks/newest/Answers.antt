@@ -1,4 +1,4 @@
-use Rattle.lo_machine.proofs.Naming.{newest_found, newest_high}
+use Rattle.lo_machine.proofs.NewestLevel.{newest_found, newest_high}
 use Rattle.lo_machine.proofs.blocks.Blocks.newest.Goals as goal
 
 pub returns-clause-level : goal.returns-clause-level

@@ -1,5 +1,5 @@
 use Rattle.std.proofs.Common.{refl}
-use Rattle.lo_machine.proofs.Acting.{begins, begins_again}
+use Rattle.lo_machine.proofs.TransactionRequests.{begins, begins_again}
 use Rattle.lo_machine.proofs.engine.Engine.begin.Goals.{then-not-is_open+in_ok-begin, else-not-is_open}
 use Rattle.lo_machine.proofs.engine.Engine.begin.Goals as goal
 

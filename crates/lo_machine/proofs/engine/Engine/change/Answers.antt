@@ -1,5 +1,5 @@
 use Rattle.std.proofs.Common.{rules, refl}
-use Rattle.lo_machine.proofs.Changing.{changes_not, changes_open, changes_alone}
+use Rattle.lo_machine.proofs.ObjectRequests.{changes_not, changes_open, changes_alone}
 use Rattle.lo_machine.proofs.engine.Engine.change.Goals.{then-is_open+in_ok-add, else-is_open+in_ok-begin+in_ok-add-2}
 use Rattle.lo_machine.proofs.engine.Engine.change.Goals as goal
 

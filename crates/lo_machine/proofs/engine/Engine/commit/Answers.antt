@@ -1,5 +1,5 @@
 use Rattle.std.proofs.Common.{refl, sym}
-use Rattle.lo_machine.proofs.Acting.{commits_nothing, commits_failed, commits}
+use Rattle.lo_machine.proofs.TransactionRequests.{commits_nothing, commits_failed, commits}
 use Rattle.lo_machine.proofs.engine.Engine.commit.Goals as goal
 
 pub returns-then-not-is_open : goal.returns-then-not-is_open

@@ -2,7 +2,7 @@ use Rattle.std.proofs.Common.{rules, ◌≡◌, true, false, subst}
 use Rattle.std.proofs.lemmas.Result.{IfOk-weaker}
 use Rattle.lo_machine.specs.Change.{is_there}
 use Rattle.lo_machine.specs.Engine.{object_kept}
-use Rattle.lo_machine.proofs.Changing.{creates, creates_not}
+use Rattle.lo_machine.proofs.ObjectRequests.{creates, creates_not}
 use Rattle.lo_machine.proofs.engine.Engine.create.Goals as goal
 
 pub returns-then-exists : goal.returns-then-exists

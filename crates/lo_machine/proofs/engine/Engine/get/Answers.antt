@@ -1,6 +1,6 @@
 use Rattle.std.proofs.Common.{rules, ◌≡◌, sym, ◌∙◌, subst, None, Some}
 use Rattle.lo_machine.specs.Engine.{object_kept}
-use Rattle.lo_machine.proofs.Changing.{gets, gets_not}
+use Rattle.lo_machine.proofs.ObjectRequests.{gets, gets_not}
 use Rattle.lo_machine.proofs.engine.Engine.get.Goals as goal
 
 -- what the code found

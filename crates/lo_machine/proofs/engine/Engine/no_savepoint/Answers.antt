@@ -1,6 +1,6 @@
 use Rattle.std.proofs.Common.{◌≡◌, refl}
 use Rattle.lo_machine.specs.Plain.{no_savepoint}
-use Rattle.lo_machine.proofs.Acting.{refused_savepoint, no_transaction_cause, no_name_cause}
+use Rattle.lo_machine.proofs.TransactionRequests.{refused_savepoint, no_transaction_cause, no_name_cause}
 use Rattle.lo_machine.proofs.engine.Engine.no_savepoint.Goals.{then-is_open, else-is_open}
 use Rattle.lo_machine.proofs.engine.Engine.no_savepoint.Goals as goal
 use Rattle.xact_core.specs.Transactions.{levels_of}

@@ -3,7 +3,7 @@ use Rattle.std.proofs.lemmas.Bool.Decides.{nat_tests}
 use Rattle.std.proofs.lemmas.Result.{IfOk-weaker}
 use Rattle.lo_machine.specs.Change.{is_there}
 use Rattle.lo_machine.specs.Engine.{object_kept}
-use Rattle.lo_machine.proofs.Changing.{puts, puts_not, puts_nothing}
+use Rattle.lo_machine.proofs.ObjectRequests.{puts, puts_not, puts_nothing}
 use Rattle.lo_machine.proofs.engine.Engine.put.Goals as goal
 
 pub returns-then-not-exists : goal.returns-then-not-exists

@@ -1,6 +1,6 @@
 use Rattle.std.proofs.Common.{refl, w64, rules}
 use Rattle.std.proofs.lemmas.Int.{to_z-of_z}
-use Rattle.lo_machine.proofs.Acting.{does_refuse}
+use Rattle.lo_machine.proofs.TransactionRequests.{does_refuse}
 use Rattle.lo_machine.proofs.engine.Engine.refuse.Goals as goal
 
 pub returns : goal.returns

@@ -1,5 +1,5 @@
 use Rattle.std.proofs.Common.{refl, ◌∙◌, sym}
-use Rattle.lo_machine.proofs.Acting.{releases, releases_not}
+use Rattle.lo_machine.proofs.TransactionRequests.{releases, releases_not}
 use Rattle.lo_machine.proofs.engine.Engine.release.Goals as goal
 
 pub returns-in_default : goal.returns-in_default

@@ -1,5 +1,5 @@
 use Rattle.std.proofs.Common.{refl}
-use Rattle.lo_machine.proofs.Acting.{rolls_back, rolls_nothing}
+use Rattle.lo_machine.proofs.TransactionRequests.{rolls_back, rolls_nothing}
 use Rattle.lo_machine.proofs.engine.Engine.rollback.Goals.{then-is_open, else-is_open}
 use Rattle.lo_machine.proofs.engine.Engine.rollback.Goals as goal
 

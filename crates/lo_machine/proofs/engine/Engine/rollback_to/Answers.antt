@@ -1,5 +1,5 @@
 use Rattle.std.proofs.Common.{refl, ◌∙◌, sym}
-use Rattle.lo_machine.proofs.Acting.{rolls_to, rolls_not}
+use Rattle.lo_machine.proofs.TransactionRequests.{rolls_to, rolls_not}
 use Rattle.lo_machine.proofs.engine.Engine.rollback_to.Goals as goal
 
 pub returns-in_default : goal.returns-in_default

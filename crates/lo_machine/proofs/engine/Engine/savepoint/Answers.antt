@@ -2,7 +2,7 @@ use Rattle.std.proofs.Common.{ℕ, List, [], ◌∷◌, ◌++◌, Some, refl, su
 use Rattle.lo_machine.specs.Blocks.{block_of, Becomes}
 use Rattle.xact_core.specs.Ends.{same}
 use Rattle.xact_core.specs.Transactions.{levels_of}
-use Rattle.lo_machine.proofs.Acting.{saves_nothing, saves}
+use Rattle.lo_machine.proofs.TransactionRequests.{saves_nothing, saves}
 use Rattle.lo_machine.proofs.engine.Engine.savepoint.Goals as goal
 
 pub returns-then-not-is_open : goal.returns-then-not-is_open

@@ -1,5 +1,5 @@
 use Rattle.std.proofs.Common.{refl}
-use Rattle.lo_machine.proofs.Stepping.{serves}
+use Rattle.lo_machine.proofs.Steps.{serves}
 use Rattle.lo_machine.proofs.engine.Engine.step.Goals as goal
 
 pub returns : goal.returns

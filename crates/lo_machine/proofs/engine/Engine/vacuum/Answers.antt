@@ -1,5 +1,5 @@
 use Rattle.std.proofs.Common.{refl}
-use Rattle.lo_machine.proofs.Acting.{vacuums, vacuums_not}
+use Rattle.lo_machine.proofs.TransactionRequests.{vacuums, vacuums_not}
 use Rattle.lo_machine.proofs.engine.Engine.vacuum.Goals as goal
 
 pub returns-then-is_open : goal.returns-then-is_open

@@ -8,7 +8,7 @@ use Rattle.lo_machine.specs.Program.{program_of}
 use Rattle.lo_machine.specs.Replay.{Play, HasLine, moment_of}
 use Rattle.lo_machine.specs.Run.{next_line}
 use Rattle.lo_machine.specs.Running.{play_of}
-use Rattle.lo_machine.proofs.Replaying.{AdvancedBy, moves_on, advanced, stayed, advances, slice_get_some_within}
+use Rattle.lo_machine.proofs.ReplayedRuns.{AdvancedBy, moves_on, advanced, stayed, advances, slice_get_some_within}
 use Rattle.lo_machine.proofs.running.Running.advance.Goals as goal
 
 pub invariant_of-self-in_err-reply : goal.invariant_of-self-in_err-reply

@@ -26,9 +26,9 @@ use Rattle.lo_machine.specs.Served.{IsAllBytes}
 use Rattle.lo_machine.specs.State.{owner_in}
 use Rattle.lo_machine.specs.Terms.{read_limit}
 use Rattle.lo_machine.specs.Plain.{PlainState, now, object_now, answered, refused, sent, edited, unless_held, changed, created, written, put, offset_of, got, served}
-use Rattle.lo_machine.proofs.Acting.{levels_now, does_as, does_nothing}
-use Rattle.lo_machine.proofs.Keeping.{IsNew, keeps_turned, keeps_still, keeps_added, object_kept-now, held_now}
-use Rattle.lo_machine.proofs.Standing.{IsIdle, turned, turned-same, turned-append, edits_on-turned, standing-idle, own_committed}
+use Rattle.lo_machine.proofs.TransactionRequests.{levels_now, does_as, does_nothing}
+use Rattle.lo_machine.proofs.KeptEdits.{IsNew, keeps_turned, keeps_still, keeps_added, object_kept-now, held_now}
+use Rattle.lo_machine.proofs.StandingEdits.{IsIdle, turned, turned-same, turned-append, edits_on-turned, standing-idle, own_committed}
 use Rattle.xact_core.specs.Ends.{same, commit_at}
 use Rattle.xact_core.specs.Kept.{view_at}
 use Rattle.xact_core.specs.Transactions.{levels_of}

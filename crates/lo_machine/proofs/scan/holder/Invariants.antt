@@ -1,7 +1,7 @@
 use Rattle.std.proofs.Common.{◌≡◌, ℕ, drop}
 use Rattle.lo_model.specs.Touch.{touched, lower_of, busy_with}
 use Rattle.lo_machine.specs.Change.{deed_of, standing}
-use Rattle.lo_machine.proofs.change.holder.Given as goal
+use Rattle.lo_machine.proofs.scan.holder.Given as goal
 
 abbrev pub invariant-loop-made : goal.invariant-loop-made
 invariant-loop-made l =

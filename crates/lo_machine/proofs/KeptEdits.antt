@@ -20,7 +20,7 @@ use Rattle.lo_machine.specs.Change.{deed_of, edit_of, standing, is_on, edits_on}
 use Rattle.lo_machine.specs.Engine.{Keeps, KeepsAt, object_kept}
 use Rattle.lo_machine.specs.History.{history_of, Adds}
 use Rattle.lo_machine.specs.Plain.{PlainState, object_now}
-use Rattle.lo_machine.proofs.Standing.{turned, turned-same, standing-turned, edits_on-turned, standing-more, object_found, busy_on}
+use Rattle.lo_machine.proofs.StandingEdits.{turned, turned-same, standing-turned, edits_on-turned, standing-more, object_found, busy_on}
 use Rattle.xact_core.specs.Ends.{Turns, same}
 use Rattle.xact_core.specs.Kept.{view_at}
 use Rattle.xact_core.specs.Stamp.{made_at, owner_of, IsIssued}

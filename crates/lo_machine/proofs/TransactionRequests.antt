@@ -15,8 +15,8 @@ use Rattle.lo_model.specs.Transaction.{Transaction, new_transaction, no_transact
 use Rattle.lo_machine.specs.Blocks.{block_of, Becomes, Fails}
 use Rattle.lo_machine.specs.Engine.{KeepsAt, Leaves, Does}
 use Rattle.lo_machine.specs.Plain.{PlainState, PlainOutcome, now, answered, refused, refused_in, begun, rolled_back, committed_in, saved, no_savepoint, released_from, undone_from, vacuumed, served}
-use Rattle.lo_machine.proofs.Keeping.{keeps_turned, keeps_still}
-use Rattle.lo_machine.proofs.Standing.{turned, turned-same, turned-undo, turned-release, turned-commit}
+use Rattle.lo_machine.proofs.KeptEdits.{keeps_turned, keeps_still}
+use Rattle.lo_machine.proofs.StandingEdits.{turned, turned-same, turned-undo, turned-release, turned-commit}
 use Rattle.xact_core.specs.Ends.{same, release, undo, commit_at}
 use Rattle.xact_core.specs.Transactions.{levels_of}
 

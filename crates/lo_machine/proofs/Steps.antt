@@ -20,8 +20,8 @@ use Rattle.lo_machine.specs.Served.{IsServed}
 use Rattle.lo_machine.specs.State.{State, Player, with_player}
 use Rattle.lo_machine.specs.Step.{reply_to, state_after}
 use Rattle.lo_machine.specs.Change.{edits_on}
-use Rattle.lo_machine.proofs.Serving.{serving}
-use Rattle.lo_machine.proofs.Keeping.{keeps_ticked}
+use Rattle.lo_machine.proofs.ServedRows.{serving}
+use Rattle.lo_machine.proofs.KeptEdits.{keeps_ticked}
 use Rattle.xact_core.specs.Stamp.{IsIssued}
 use Rattle.xact_core.specs.Transactions.{beginning, levels_of}
 
@@ -74,7 +74,7 @@ none_at_start : (s : ℕ) → s ≤ 16 → levels_of beginning s ≡ []
 none_at_start zero high = refl
 none_at_start (suc i) high = get_or-replicate {A = List (Option (List ℕ))} 16 i [] [] (omega arith)
 
-pub stands_at_start : (e : Engine) → e.blocks.xacts ≡ record { clock = 0; undos = 0; levels = replicate 16 []; fates = []; held = [] } → e.blocks.failed.items ≡ replicate 16 false → ((o : ℕ) → history_of e.history o ≡ []) → StandsFor e start.state
+pub stands_at_start : (e : Engine) → e.blocks.xacts ≡ beginning → e.blocks.failed.items ≡ replicate 16 false → ((o : ℕ) → history_of e.history o ≡ []) → StandsFor e start.state
 stands_at_start e xacts failed none = record {
   told = λ _. record {
     time = rw xacts refl;
