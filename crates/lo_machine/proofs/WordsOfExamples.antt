@@ -1,0 +1,75 @@
+-- Words that the worked examples share: a run is written as a list of turns, each with its session, its request and its reply.
+use Rattle.std.specs.Prelude.{◌≡◌, ℕ, ℤ, pos, ◌==◌, List, [], ◌∷◌, Option, Some, map, filter}
+use Rattle.lo_base.specs.declared.refusal.Cause.{Cause}
+use Rattle.lo_base.specs.declared.reply.Reply.{Reply}
+use Rattle.lo_base.specs.declared.reply.Reply.TheVariants.{Word, Number, Content, Counted, Refused}
+use Rattle.lo_base.specs.declared.reply.Word.TheVariants as words
+use Rattle.lo_base.specs.declared.request.Request.{Request}
+use Rattle.lo_machine.specs.Run.{Moment, replies_from, start, started, empty_database}
+
+-- replies
+abbrev pub refused : Cause → (subject : ℕ) → Reply
+refused cause subject = Refused (record { cause = cause; subject = pos subject })
+
+abbrev pub refused_for : Cause → (subject : ℤ) → Reply
+refused_for cause subject = Refused (record { cause = cause; subject = subject })
+
+abbrev pub number : ℕ → Reply
+number n = Number (pos n)
+
+abbrev pub ok : Reply
+ok = Word words.Ok
+
+abbrev pub begun : Reply
+begun = Word words.Begin
+
+abbrev pub rolled_back : Reply
+rolled_back = Word words.Rollback
+
+abbrev pub committed : Reply
+committed = Word words.Commit
+
+abbrev pub saved : Reply
+saved = Word words.Savepoint
+
+-- One advance of a run: whose it is, the line that is its session's next one, and what is answered.
+pub record Turn : Type 0 where
+  pub session : ℕ
+  pub request : Request
+  pub reply : Reply
+
+abbrev pub by_a : Request → Reply → Turn
+by_a request reply = record { session = 1; request = request; reply = reply }
+
+abbrev pub by_b : Request → Reply → Turn
+by_b request reply = record { session = 2; request = request; reply = reply }
+
+abbrev pub by_c : Request → Reply → Turn
+by_c request reply = record { session = 3; request = request; reply = reply }
+
+abbrev pub by_d : Request → Reply → Turn
+by_d request reply = record { session = 4; request = request; reply = reply }
+
+-- the lines of a session among turns
+abbrev pub lines_of : (session : ℕ) → List Turn → List Request
+lines_of s turns = map (λ (t : Turn). t.request) (filter (λ (t : Turn). t.session == s) turns)
+
+abbrev pub programs_in : List Turn → List (List Request)
+programs_in turns = lines_of 1 turns ∷ lines_of 2 turns ∷ lines_of 3 turns ∷ lines_of 4 turns ∷ []
+
+abbrev pub schedule_in : List Turn → List ℕ
+schedule_in turns = map (λ (t : Turn). t.session) turns
+
+abbrev pub answer_of : Turn → ℕ × Reply
+answer_of t = (t.session, t.reply)
+
+-- The run of these lines in this order, from a moment on, gives these replies.
+abbrev pub PlaysFrom : Moment → List Turn → Type 0
+PlaysFrom moment turns = replies_from (programs_in turns) moment (schedule_in turns) ≡ map answer_of turns
+
+-- from the empty database, in which blocks are not counted, and with so many blocks
+abbrev pub Plays : List Turn → Type 0
+Plays turns = PlaysFrom start turns
+
+abbrev pub with_blocks : (blocks : ℕ) → Moment
+with_blocks blocks = started (Some blocks) empty_database
