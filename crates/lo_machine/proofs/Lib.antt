@@ -1,5 +1,6 @@
 pub mod Acting
 pub mod Changing
+mod DescriptorExamples
 mod Examples
 pub mod Keeping
 pub mod Laying
