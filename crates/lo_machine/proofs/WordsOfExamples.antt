@@ -1,5 +1,10 @@
 -- Words that the worked examples share: a run is written as a list of turns, each with its session, its request and its reply.
-use Rattle.std.specs.Prelude.{◌≡◌, ℕ, ℤ, pos, ◌==◌, List, [], ◌∷◌, Option, Some, map, filter}
+use Rattle.std.specs.Prelude.{◌≡◌, ℕ, ℤ, pos, ◌==◌, List, [], ◌∷◌, Option, Some, codes, map, filter}
+use Rattle.lo_base.specs.declared.column.Column.{Column}
+use Rattle.lo_base.specs.declared.column.ColType.{ColType}
+use Rattle.lo_base.specs.declared.column.ColType.TheVariants as types
+use Rattle.lo_base.specs.declared.column.Storage.{Storage}
+use Rattle.lo_base.specs.declared.column.Storage.TheVariants as storages
 use Rattle.lo_base.specs.declared.refusal.Cause.{Cause}
 use Rattle.lo_base.specs.declared.reply.Reply.{Reply}
 use Rattle.lo_base.specs.declared.reply.Reply.TheVariants.{Word, Number, Content, Counted, Refused}
@@ -31,6 +36,37 @@ committed = Word words.Commit
 
 abbrev pub saved : Reply
 saved = Word words.Savepoint
+
+abbrev pub made : Reply
+made = Word words.CreateTable
+
+abbrev pub inserted : Reply
+inserted = Word words.Insert
+
+abbrev pub updated : Reply
+updated = Word words.Update
+
+-- columns
+abbrev pub column : (name : List ℕ) → ColType → Storage → Column
+column name kind storage = record { name = name; kind = kind; storage = storage }
+
+abbrev pub id_column : Column
+id_column = column (codes "id") types.Int8 storages.Plain
+
+abbrev pub bytes_column : (name : List ℕ) → Storage → Column
+bytes_column name storage = column name types.Bytea storage
+
+abbrev pub array_column : (name : List ℕ) → Column
+array_column name = column name types.Int4Array storages.Extended
+
+abbrev pub number_column : (name : List ℕ) → Column
+number_column name = column name types.Int8 storages.Plain
+
+abbrev pub oid_column : (name : List ℕ) → Column
+oid_column name = column name types.Oid storages.Plain
+
+abbrev pub lo_column : (name : List ℕ) → Column
+lo_column name = column name types.Lo storages.Plain
 
 -- One advance of a run: whose it is, the line that is its session's next one, and what is answered.
 pub record Turn : Type 0 where
