@@ -1,5 +1,7 @@
 pub mod Acting
+mod ArrayExamples
 pub mod Changing
+mod CursorExamples
 mod DescriptorExamples
 mod Examples
 pub mod Keeping
@@ -12,4 +14,5 @@ pub mod Replaying
 pub mod Serving
 pub mod Standing
 pub mod Stepping
+mod TableExamples
 pub mod WordsOfExamples
