@@ -14,5 +14,6 @@ pub mod Replaying
 pub mod Serving
 pub mod Standing
 pub mod Stepping
+mod SweepExamples
 mod TableExamples
 pub mod WordsOfExamples
