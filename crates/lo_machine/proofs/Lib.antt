@@ -10,6 +10,7 @@ pub mod Lines
 pub mod Naming
 mod ObjectExamples
 pub mod Orders
+mod PoolExamples
 pub mod Replaying
 pub mod Serving
 pub mod Standing
