@@ -1,6 +1,6 @@
 -- No text of a reply holds a line feed.
 use Rattle.std.proofs.Common.{◌≡◌, ◌≢◌, ℕ, zero, suc, ◌/◌, ◌%◌, ◌==◌, ◌&&◌, not, true, false, Bool, List, [], ◌∷◌, ◌++◌, length, refl, inl, inr, arith}
-use Rattle.std.specs.Prelude.{All, Option, Some, None, ℤ, pos, negsuc, codes, slice_index, nat_lt}
+use Rattle.std.specs.Prelude.{Option, Some, None, ℤ, pos, negsuc, codes, slice_index, nat_lt}
 use Rattle.std.specs.Fmt.{decimal, signed_decimal, digits, digits_onto, digit_glyph}
 use Rattle.std.proofs.lemmas.Bool.Decides.{nat_tests}
 use Rattle.std.specs.List.{AllByRecursion}

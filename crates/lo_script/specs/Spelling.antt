@@ -4,7 +4,9 @@ use Rattle.std.specs.Fmt.{decimal}
 use Rattle.hex.specs.Hex.{decode_of}
 use Rattle.lo_base.specs.declared.request.Request.{Request}
 use Rattle.lo_base.specs.declared.request.Request.TheVariants.{Begin, Commit, Rollback, Savepoint, Release, RollbackTo, LoCreate, LoPut, LoGet, Vacuum}
+use Rattle.lo_machine.specs.Served.{IsServed}
 use Rattle.lo_script.specs.Form.{oid_limit}
+use Rattle.lo_script.specs.Token.{TokenList}
 
 -- the tokens are the printed form of a put. Bytes have more than one spelling, since digits may be of either case
 pub record SpellsPut (oid at : ℕ) (bytes : List ℕ) (tokens : List (List ℕ)) : Type 0 where
@@ -29,3 +31,7 @@ Spells (LoPut oid at bytes) tokens = (oid ≤ oid_limit) × SpellsPutAt oid at b
 Spells (LoGet oid from length) tokens = (oid ≤ oid_limit) × (tokens ≡ codes "lo_get" ∷ decimal oid ∷ [])
 Spells Vacuum tokens = tokens ≡ codes "vacuum" ∷ []
 Spells _ tokens = ⊥
+
+-- the tokens are the printed form of a request that is served
+abbrev pub SpellsServed : Request → TokenList → Type 0
+SpellsServed r tokens = IsServed r × Spells r tokens

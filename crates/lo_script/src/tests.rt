@@ -252,7 +252,10 @@ fn each_letter_is_a_session(rt: HostRuntime) -> Result<(), Fail> {
 fn bytes_have_a_limit(rt: HostRuntime) -> Result<(), Fail> {
     let token = Tokens::of(b"\\x4142", 7).next()?;
     assert_eq!(rt; token.bytes(rt.alloc(), 2)?.items(), b"AB".as_slice());
-    let start = token.bytes(rt.alloc(), 1).err().and_then(|e| bad_line_of(&e));
+    let start = token
+        .bytes(rt.alloc(), 1)
+        .err()
+        .and_then(|e| bad_line_of(&e));
     assert_eq!(rt; start, Some(BadLine { line: 7, column: 1 }));
     Ok(())
 }
@@ -297,7 +300,11 @@ const COUNTS: [(Word, u64, &str); 6] = [
     (Word::Removed, 2, "> A: REMOVED 2\n"),
     (Word::WouldRemove, 0, "> A: WOULD REMOVE 0\n"),
     (Word::Rewrite, 1000, "> A: REWRITE 1000\n"),
-    (Word::Listed, 18446744073709551615, "> A: LISTED 18446744073709551615\n"),
+    (
+        Word::Listed,
+        18446744073709551615,
+        "> A: LISTED 18446744073709551615\n",
+    ),
 ];
 
 #[test]
