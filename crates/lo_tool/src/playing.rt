@@ -33,9 +33,26 @@ fn play(alloc: Global, script: Script) -> Result<Finished, NoMemory>
     ensures replies { IfOk result (λ finished.
         finished.replies ≡ replies_of script.programs (schedule_of script.programs script.order)) }
 {
+    know_schedule(&script);
+    play_order(alloc, script)
+}
+
+/// A script's schedule is its order so far, since each line takes one advance, and it is whole. No request is looked at.
+fn know_schedule(script: &Script)
+    requires { IsOrderOf script.now.programs script.now.order }
+    ensures order { schedule_of script.now.programs script.now.order ≡ script.now.order }
+    ensures whole { IsWhole script.now.programs script.now.order }
+{
     orders_are_whole();
     served_lines_take_one_advance();
     script.programs.served();
+}
+
+/// Advances each session of the order once, one after the other.
+fn play_order(alloc: Global, script: Script) -> Result<Finished, NoMemory>
+    requires { IsWhole script.programs script.order }
+    ensures { IfOk result (λ finished. finished.replies ≡ replies_of script.programs script.order) }
+{
     let mut running = Running::start(alloc, script.programs)?;
     for s in script.order.items() {
         running.advance(*s)?;
