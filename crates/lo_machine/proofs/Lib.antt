@@ -15,6 +15,7 @@ pub mod Replaying
 pub mod Serving
 pub mod Standing
 pub mod Stepping
+mod RunExamples
 mod SweepExamples
 mod TableExamples
 pub mod WordsOfExamples
