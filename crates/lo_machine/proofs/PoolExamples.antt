@@ -1,18 +1,17 @@
 -- Worked examples of what the pool holds and of what it refuses, each computed by the checker: a wrong one fails the crate.
-use Rattle.std.proofs.Common.{◌≡◌, refl, ℕ, ℤ, pos, negsuc, List, [], ◌∷◌, ◌++◌, None, Some, replicate}
+use Rattle.std.proofs.Common.{refl, ℕ, pos, [], ◌∷◌, ◌++◌, Some, replicate}
 use Rattle.std.specs.Prelude.{codes}
 use Rattle.lo_base.specs.declared.column.Storage.TheVariants as storages
 use Rattle.lo_base.specs.declared.refusal.Cause.TheVariants.{NoObject, PoolShort}
 use Rattle.lo_base.specs.declared.reply.Reply.TheVariants.{Word, Content, Counted}
 use Rattle.lo_base.specs.declared.reply.Word.TheVariants as words
-use Rattle.lo_base.specs.declared.request.Assign.{Assign}
 use Rattle.lo_base.specs.declared.request.Request.{Request}
-use Rattle.lo_base.specs.declared.request.Request.TheVariants.{Begin, Commit, Rollback, Savepoint, Release, RollbackTo, LoCreate, LoOpen, LoClose, LoTruncate, LoUnlink, LoGet, LoPut, LoFromBytea, CreateTable, Insert, Update, Delete, Slice, Declare, Close, Rewrite, Vacuum}
-use Rattle.lo_base.specs.declared.value.Literal.TheVariants.{Null, Number, Bytes}
+use Rattle.lo_base.specs.declared.request.Request.TheVariants.{Begin, Commit, Rollback, Savepoint, Release, RollbackTo, LoCreate, LoOpen, LoClose, LoTruncate, LoUnlink, LoPut, LoFromBytea, CreateTable, Insert, Update, Delete, Slice, Declare, Close, Rewrite, Vacuum}
+use Rattle.lo_base.specs.declared.value.Literal.TheVariants.{Number, Bytes}
 use Rattle.lo_model.specs.declared.owner.Owner.TheVariants.{Committed}
 use Rattle.lo_model.specs.Edit.{Create, Write, edits_by}
 use Rattle.lo_machine.specs.Run.{Moment, started}
-use Rattle.lo_machine.proofs.WordsOfExamples.{refused, number, ok, begun, rolled_back, committed, saved, made, inserted, updated, id_column, bytes_column, number_column, Turn, by_a, by_b, PlaysFrom, with_blocks}
+use Rattle.lo_machine.proofs.WordsOfExamples.{refused, number, ok, begun, rolled_back, committed, saved, made, inserted, updated, id_column, bytes_column, number_column, by_a, by_b, PlaysFrom, with_blocks}
 
 abbrev put : (oid byte : ℕ) → Request
 put o byte = LoPut o (pos 0) (byte ∷ [])

@@ -1,21 +1,20 @@
 -- Worked examples of how runs begin and end, and of which schedules are whole, each computed by the checker: a wrong one fails
 -- the crate.
-use Rattle.std.proofs.Common.{◌≡◌, refl, sym, ap, arith, false, ℕ, ◌≤◌, ◌==◌, pos, negsuc, List, [], ◌∷◌, ◌++◌, Option, None, Some, replicate}
+use Rattle.std.proofs.Common.{◌≡◌, refl, sym, ap, arith, false, ℕ, ◌==◌, pos, negsuc, List, [], ◌∷◌, Option, None, replicate}
 use Rattle.std.specs.Prelude.{codes, is_some}
 use Rattle.std.proofs.lemmas.Bool.{false≢true}
 use Rattle.lo_base.specs.declared.column.Storage.TheVariants as storages
-use Rattle.lo_base.specs.declared.refusal.Cause.TheVariants.{PoolShort, NoObject}
+use Rattle.lo_base.specs.declared.refusal.Cause.TheVariants.{PoolShort}
 use Rattle.lo_base.specs.declared.reply.Reply.TheVariants.{Word, Content, Ids as IdsReply}
 use Rattle.lo_base.specs.declared.reply.Word.TheVariants as words
 use Rattle.lo_base.specs.declared.request.Request.{Request}
-use Rattle.lo_base.specs.declared.request.Request.TheVariants.{Begin, Commit, LoCreate, LoUnlink, LoGet, LoPut, LoFromBytea, CreateTable, Insert, Delete, Ids, Slice, Rewrite, Vacuumlo, Step, Finish}
+use Rattle.lo_base.specs.declared.request.Request.TheVariants.{Begin, Commit, LoCreate, LoUnlink, LoGet, LoPut, LoFromBytea, CreateTable, Insert, Delete, Ids, Slice, Vacuumlo, Finish}
 use Rattle.lo_base.specs.declared.value.Literal.TheVariants as literals
 use Rattle.lo_base.specs.declared.value.Value.TheVariants.{Null, Int, Oid, Bytes}
 use Rattle.lo_model.specs.Opening.{Opening}
 use Rattle.lo_machine.specs.Committed.{committed_opening}
 use Rattle.lo_machine.specs.Run.{IsOrderOf, IsWhole, blocks_of, end_from, schedule_of, start, start_of}
-use Rattle.lo_machine.specs.State.{State}
-use Rattle.lo_machine.proofs.WordsOfExamples.{refused, number, ok, begun, committed, made, inserted, id_column, bytes_column, oid_column, Turn, by_a, by_b, Plays, PlaysFrom, programs_in, schedule_in}
+use Rattle.lo_machine.proofs.WordsOfExamples.{refused, number, ok, begun, made, inserted, id_column, bytes_column, oid_column, Turn, by_a, by_b, Plays, PlaysFrom, programs_in, schedule_in}
 
 -- an opening with a row whose value is in two chunks, an object of a page, and one whose size is cut
 abbrev image : (blocks : ℕ) → Opening
