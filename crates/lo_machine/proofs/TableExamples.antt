@@ -303,6 +303,8 @@ rewrites_refused : PlaysFrom (with_blocks 10) (
     ∷ by_a (Rewrite (codes "t") (bytes_column (codes "v") storages.Main ∷ [])) (refused PoolShort 10)
     ∷ by_a (Delete (codes "t") (pos 2)) (Word words.Delete)
     ∷ by_a (Rewrite (codes "t") (bytes_column (codes "v") storages.Main ∷ [])) (Counted words.Rewrite 2)
+    ∷ by_a (Insert (codes "t") (Number (pos 5) ∷ Bytes [] ∷ Null ∷ Null ∷ [])) (refused WrongType 2)
+    ∷ by_a (Insert (codes "t") (Number (pos 5) ∷ ArrayText (codes "{1}") ∷ Null ∷ Null ∷ [])) inserted
     ∷ [])
 rewrites_refused = refl
 
