@@ -1,19 +1,16 @@
 -- Worked examples of the requests on array variables, each computed by the checker: a wrong one fails the crate.
-use Rattle.std.proofs.Common.{◌≡◌, refl, ℕ, ℤ, pos, negsuc, List, [], ◌∷◌, ◌++◌, None, Some, replicate}
+use Rattle.std.proofs.Common.{◌≡◌, refl, ℕ, pos, negsuc, List, [], ◌∷◌, None, Some}
 use Rattle.std.specs.Prelude.{codes}
 use Rattle.std.specs.Fmt.{digits}
-use Rattle.lo_base.specs.declared.refusal.Cause.TheVariants.{Failed, NoVariable, NoTable, NoColumn, WrongType, NoRow, BadArray, ArrayTooBig, NoSavepoint}
-use Rattle.lo_base.specs.declared.reply.Reply.{Reply}
-use Rattle.lo_base.specs.declared.reply.Reply.TheVariants.{Word, Number, Nothing, Text, Row}
-use Rattle.lo_base.specs.declared.reply.Word.TheVariants as words
-use Rattle.lo_base.specs.declared.request.Request.{Request}
-use Rattle.lo_base.specs.declared.request.Request.TheVariants.{Begin, Commit, Rollback, Savepoint, Release, RollbackTo, CreateTable, Insert, Update, Get, Array, Load, Set, Elem, Show}
+use Rattle.lo_base.specs.declared.refusal.Cause.TheVariants.{Failed, NoVariable, NoTable, NoColumn, WrongType, NoRow, BadArray, ArrayTooBig}
+use Rattle.lo_base.specs.declared.reply.Reply.TheVariants.{Number, Nothing, Text, Row}
+use Rattle.lo_base.specs.declared.request.Request.TheVariants.{Begin, Commit, Savepoint, RollbackTo, CreateTable, Insert, Update, Get, Array, Load, Set, Elem, Show}
 use Rattle.lo_base.specs.declared.value.Cell.TheVariants as cells
 use Rattle.lo_base.specs.declared.value.Literal.TheVariants as literals
 use Rattle.lo_base.specs.declared.value.Value.TheVariants.{Int, Bytes}
 use Rattle.lo_model.specs.Edit.{Deed, Put, deeds}
 use Rattle.lo_machine.specs.Run.{end_from, start}
-use Rattle.lo_machine.proofs.WordsOfExamples.{refused, number, ok, begun, rolled_back, committed, saved, made, inserted, updated, id_column, number_column, array_column, Turn, by_a, by_b, Plays, programs_in, schedule_in}
+use Rattle.lo_machine.proofs.WordsOfExamples.{refused, number, ok, begun, rolled_back, saved, made, inserted, updated, id_column, number_column, array_column, Turn, by_a, by_b, Plays, programs_in, schedule_in}
 
 -- an element set above the bounds and one below them, and the first one of an empty array
 set_and_shown : Plays (

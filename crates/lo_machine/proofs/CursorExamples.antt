@@ -1,5 +1,5 @@
 -- Worked examples of the requests on cursors, each computed by the checker: a wrong one fails the crate.
-use Rattle.std.proofs.Common.{◌≡◌, refl, ℕ, ℤ, pos, negsuc, List, [], ◌∷◌, ◌++◌, None, Some, replicate}
+use Rattle.std.proofs.Common.{refl, pos, negsuc, [], ◌∷◌, replicate}
 use Rattle.std.specs.Prelude.{codes}
 use Rattle.lo_base.specs.declared.column.Storage.TheVariants as storages
 use Rattle.lo_base.specs.declared.refusal.Cause.TheVariants.{Failed, NoBlock, NoTable, NoColumn, WrongType, NoRow, BadLength, NoCursor, CursorExists}
@@ -9,7 +9,7 @@ use Rattle.lo_base.specs.declared.reply.Word.TheVariants as words
 use Rattle.lo_base.specs.declared.request.Request.{Request}
 use Rattle.lo_base.specs.declared.request.Request.TheVariants.{Begin, Commit, Rollback, Savepoint, Release, RollbackTo, CreateTable, Insert, Update, Delete, Declare, Fetch, Close, Rewrite, Slice}
 use Rattle.lo_base.specs.declared.value.Literal.TheVariants.{Null, Number, Bytes}
-use Rattle.lo_machine.proofs.WordsOfExamples.{refused, refused_for, ok, begun, rolled_back, committed, saved, made, inserted, updated, id_column, bytes_column, by_a, by_b, Plays}
+use Rattle.lo_machine.proofs.WordsOfExamples.{refused, refused_for, begun, rolled_back, committed, saved, made, inserted, updated, id_column, bytes_column, by_a, by_b, Plays}
 
 abbrev declared : Reply
 declared = Word words.Declare

@@ -1,6 +1,6 @@
 -- Worked examples of the requests on descriptors, each computed by the checker: a wrong one fails the crate.
-use Rattle.std.proofs.Common.{◌≡◌, refl, ℕ, ℤ, pos, negsuc, List, [], ◌∷◌, ◌++◌, None, Some, replicate}
-use Rattle.std.specs.Prelude.{Bool, codes, map}
+use Rattle.std.proofs.Common.{◌≡◌, refl, ℕ, pos, negsuc, [], ◌∷◌, ◌++◌, None, replicate}
+use Rattle.std.specs.Prelude.{codes, map}
 use Rattle.std.specs.List.{range_with_len}
 use Rattle.lo_base.specs.declared.refusal.Cause.TheVariants.{Failed, NoObject, NoDescriptor, BadMode, NotWritable, BadWhence, BadSeek, BadTruncate, BadWrite, PositionRange, TooManyDescriptors, Busy, PoolShort}
 use Rattle.lo_base.specs.declared.reply.Reply.TheVariants.{Word, Content}
@@ -12,7 +12,7 @@ use Rattle.lo_model.specs.Edit.{Create, edits_by}
 use Rattle.lo_model.specs.Transaction.{new_transaction}
 use Rattle.lo_machine.specs.State.{State}
 use Rattle.lo_machine.specs.Step.{reply_to}
-use Rattle.lo_machine.proofs.WordsOfExamples.{refused, refused_for, number, ok, begun, rolled_back, committed, saved, by_a, by_b, by_c, by_d, Plays, PlaysFrom, with_blocks}
+use Rattle.lo_machine.proofs.WordsOfExamples.{refused, refused_for, number, ok, begun, rolled_back, committed, saved, by_a, by_b, by_c, Plays, PlaysFrom, with_blocks}
 
 -- up to the largest size, and no further
 at_the_end_of_all : Plays (

@@ -10,6 +10,7 @@ pub mod Orders
 pub mod Overlays
 mod PoolExamples
 pub mod ReplayedRuns
+mod RunExamples
 pub mod ScriptLines
 pub mod ServedRows
 pub mod StandingEdits

@@ -1,10 +1,10 @@
 -- Worked examples of the requests that name large objects, each computed by the checker: a wrong one fails the crate.
-use Rattle.std.proofs.Common.{◌≡◌, refl, ℕ, ℤ, pos, negsuc, List, [], ◌∷◌, ◌++◌, None, Some, replicate}
-use Rattle.std.specs.Prelude.{Bool, codes}
+use Rattle.std.proofs.Common.{◌≡◌, refl, ℕ, pos, negsuc, [], ◌∷◌, None, Some, replicate}
+use Rattle.std.specs.Prelude.{codes}
 use Rattle.lo_base.specs.declared.refusal.Cause.TheVariants.{Failed, NoOids, NoObject, ObjectExists, BadSeek, BadWrite, BadLength, TooMuch, Busy, PoolShort}
-use Rattle.lo_base.specs.declared.reply.Reply.TheVariants.{Word, Number, Content, Refused}
+use Rattle.lo_base.specs.declared.reply.Reply.TheVariants.{Word, Content}
 use Rattle.lo_base.specs.declared.reply.Word.TheVariants as words
-use Rattle.lo_base.specs.declared.request.Request.TheVariants.{Begin, Commit, Rollback, Savepoint, Release, RollbackTo, LoCreat, LoCreate, LoUnlink, LoGet, LoPut, LoFromBytea, Vacuum}
+use Rattle.lo_base.specs.declared.request.Request.TheVariants.{Begin, Commit, Rollback, Savepoint, RollbackTo, LoCreat, LoCreate, LoUnlink, LoGet, LoPut, LoFromBytea, Vacuum}
 use Rattle.lo_machine.specs.Run.{Moment, started}
 use Rattle.lo_machine.specs.Terms.{too_much, refusal}
 use Rattle.lo_machine.proofs.WordsOfExamples.{refused, refused_for, number, ok, begun, rolled_back, committed, saved, by_a, by_b, by_c, by_d, Plays, PlaysFrom, with_blocks}

@@ -1,15 +1,17 @@
 -- Worked examples of what the pool holds and of what it refuses, each computed by the checker: a wrong one fails the crate.
-use Rattle.std.proofs.Common.{◌≡◌, refl, ℕ, ℤ, pos, negsuc, List, [], ◌∷◌, ◌++◌, None, Some, replicate}
+use Rattle.std.proofs.Common.{refl, ℕ, pos, [], ◌∷◌, ◌++◌, Some, replicate}
 use Rattle.std.specs.Prelude.{codes}
 use Rattle.lo_base.specs.declared.column.Storage.TheVariants as storages
 use Rattle.lo_base.specs.declared.refusal.Cause.TheVariants.{NoObject, PoolShort}
 use Rattle.lo_base.specs.declared.reply.Reply.TheVariants.{Word, Content, Counted}
 use Rattle.lo_base.specs.declared.reply.Word.TheVariants as words
-use Rattle.lo_base.specs.declared.request.Assign.{Assign}
 use Rattle.lo_base.specs.declared.request.Request.{Request}
-use Rattle.lo_base.specs.declared.request.Request.TheVariants.{Begin, Commit, Rollback, Savepoint, Release, RollbackTo, LoCreate, LoOpen, LoClose, LoTruncate, LoUnlink, LoGet, LoPut, LoFromBytea, CreateTable, Insert, Update, Delete, Slice, Declare, Close, Rewrite, Vacuum}
-use Rattle.lo_base.specs.declared.value.Literal.TheVariants.{Null, Number, Bytes}
-use Rattle.lo_machine.proofs.WordsOfExamples.{refused, number, ok, begun, rolled_back, committed, saved, made, inserted, updated, id_column, bytes_column, number_column, Turn, by_a, by_b, PlaysFrom, with_blocks}
+use Rattle.lo_base.specs.declared.request.Request.TheVariants.{Begin, Commit, Rollback, Savepoint, Release, RollbackTo, LoCreate, LoOpen, LoClose, LoTruncate, LoUnlink, LoPut, LoFromBytea, CreateTable, Insert, Update, Delete, Slice, Declare, Close, Rewrite, Vacuum}
+use Rattle.lo_base.specs.declared.value.Literal.TheVariants.{Number, Bytes}
+use Rattle.lo_model.specs.declared.owner.Owner.TheVariants.{Committed}
+use Rattle.lo_model.specs.Edit.{Create, Write, edits_by}
+use Rattle.lo_machine.specs.Run.{Moment, started}
+use Rattle.lo_machine.proofs.WordsOfExamples.{refused, number, ok, begun, rolled_back, committed, saved, made, inserted, updated, id_column, bytes_column, number_column, by_a, by_b, PlaysFrom, with_blocks}
 
 abbrev put : (oid byte : ℕ) → Request
 put o byte = LoPut o (pos 0) (byte ∷ [])
@@ -182,3 +184,15 @@ chunks_kept_by_a_cursor : PlaysFrom (with_blocks 4) (
     ∷ by_a (LoFromBytea 6 (replicate 4097 1)) (number 6)
     ∷ [])
 chunks_kept_by_a_cursor = refl
+
+-- where more is held than there are blocks, what needs none is still granted
+abbrev overfull : Moment
+overfull = started (Some 0) (record { edits = edits_by 0 (Committed 0) (Create 5 ∷ Write 5 0 (1 ∷ []) ∷ []); tables = []; counter = 16384 })
+
+granted_without_need : PlaysFrom overfull (
+    by_a (LoCreate 0) (number 16384)
+    ∷ by_a (LoPut 5 (pos 9) []) ok
+    ∷ by_a (put 5 2) (refused PoolShort 1)
+    ∷ by_a (LoUnlink 5) (number 1)
+    ∷ [])
+granted_without_need = refl

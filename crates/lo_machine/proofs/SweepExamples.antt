@@ -1,12 +1,11 @@
 -- Worked examples of clean-ups of orphans, each computed by the checker: a wrong one fails the crate.
-use Rattle.std.proofs.Common.{◌≡◌, refl, ℕ, ℤ, pos, negsuc, true, false, List, [], ◌∷◌, ◌++◌, None, Some}
+use Rattle.std.proofs.Common.{◌≡◌, refl, ℕ, pos, true, false, List, [], ◌∷◌, None}
 use Rattle.std.specs.Prelude.{codes}
 use Rattle.lo_base.specs.declared.refusal.Cause.TheVariants.{Failed, InBlock, NoObject, Busy}
 use Rattle.lo_base.specs.declared.reply.Reply.{Reply}
 use Rattle.lo_base.specs.declared.reply.Reply.TheVariants.{Word, Content, Counted, Stopped}
 use Rattle.lo_base.specs.declared.reply.Word.TheVariants as words
-use Rattle.lo_base.specs.declared.request.Request.{Request}
-use Rattle.lo_base.specs.declared.request.Request.TheVariants.{Begin, Commit, Rollback, LoCreate, LoUnlink, LoGet, LoPut, CreateTable, Insert, Update, Delete, Vacuumlo, Step, Finish}
+use Rattle.lo_base.specs.declared.request.Request.TheVariants.{Begin, Commit, Rollback, LoCreate, LoUnlink, LoGet, LoPut, CreateTable, Insert, Delete, Vacuumlo, Step, Finish}
 use Rattle.lo_base.specs.declared.value.Literal.TheVariants.{Null, Number}
 use Rattle.lo_machine.specs.Program.{has_sweeps}
 use Rattle.lo_machine.proofs.WordsOfExamples.{refused, number, ok, begun, rolled_back, committed, made, inserted, id_column, number_column, oid_column, lo_column, Turn, by_a, by_a_still, by_b, by_c, Plays, IsScheduleOfScript}

@@ -1,21 +1,21 @@
 -- Worked examples of the requests on tables and rows, each computed by the checker: a wrong one fails the crate.
 use Rattle.std.proofs.Common.{◌≡◌, refl, ℕ, ℤ, pos, negsuc, List, [], ◌∷◌, ◌++◌, Option, None, Some, replicate}
-use Rattle.std.specs.Prelude.{Bool, codes, map}
+use Rattle.std.specs.Prelude.{codes}
 use Rattle.std.specs.Fmt.{digits}
 use Rattle.lo_base.specs.declared.column.Column.{Column}
 use Rattle.lo_base.specs.declared.column.Storage.TheVariants as storages
-use Rattle.lo_base.specs.declared.refusal.Cause.TheVariants.{Failed, InBlock, NoVariable, NoObject, NoTable, TableExists, NoColumn, WrongType, NoRow, RowExists, BadLength, BadArray, TooManyTables, RowTooBig, Busy, PoolShort}
+use Rattle.lo_base.specs.declared.refusal.Cause.TheVariants.{InBlock, NoVariable, NoObject, NoTable, TableExists, NoColumn, WrongType, NoRow, RowExists, BadLength, BadArray, TooManyTables, RowTooBig, Busy, PoolShort}
 use Rattle.lo_base.specs.declared.reply.Reply.TheVariants.{Word, Content, Nothing, Row, Ids as IdsReply, Counted}
 use Rattle.lo_base.specs.declared.reply.Word.TheVariants as words
 use Rattle.lo_base.specs.declared.request.Assign.{Assign}
 use Rattle.lo_base.specs.declared.request.Request.{Request}
-use Rattle.lo_base.specs.declared.request.Request.TheVariants.{Begin, Commit, Rollback, Savepoint, RollbackTo, LoGet, CreateTable, Insert, Update, Delete, Get, Ids, Slice, Rewrite, Array}
+use Rattle.lo_base.specs.declared.request.Request.TheVariants.{Begin, Commit, Rollback, LoGet, CreateTable, Insert, Update, Delete, Get, Ids, Slice, Rewrite, Array}
 use Rattle.lo_base.specs.declared.value.Cell.TheVariants as cells
 use Rattle.lo_base.specs.declared.value.Literal.{Literal}
 use Rattle.lo_base.specs.declared.value.Literal.TheVariants.{Null, Number, Bytes, ArrayText, Variable}
 use Rattle.lo_model.specs.Edit.{Deed, Put, deeds}
 use Rattle.lo_machine.specs.Run.{Moment, end_from, start, started}
-use Rattle.lo_machine.proofs.WordsOfExamples.{refused, refused_for, number, ok, begun, rolled_back, committed, saved, made, inserted, updated, id_column, bytes_column, array_column, number_column, oid_column, lo_column, Turn, by_a, by_b, by_c, Plays, PlaysFrom, programs_in, schedule_in, with_blocks}
+use Rattle.lo_machine.proofs.WordsOfExamples.{refused, refused_for, ok, begun, rolled_back, committed, made, inserted, updated, id_column, bytes_column, array_column, number_column, oid_column, lo_column, Turn, by_a, by_b, by_c, Plays, PlaysFrom, programs_in, schedule_in, with_blocks}
 
 abbrev to : (column : List ℕ) → Literal → Assign
 to name value = record { column = name; value = value }
@@ -303,6 +303,8 @@ rewrites_refused : PlaysFrom (with_blocks 10) (
     ∷ by_a (Rewrite (codes "t") (bytes_column (codes "v") storages.Main ∷ [])) (refused PoolShort 10)
     ∷ by_a (Delete (codes "t") (pos 2)) (Word words.Delete)
     ∷ by_a (Rewrite (codes "t") (bytes_column (codes "v") storages.Main ∷ [])) (Counted words.Rewrite 2)
+    ∷ by_a (Insert (codes "t") (Number (pos 5) ∷ Bytes [] ∷ Null ∷ Null ∷ [])) (refused WrongType 2)
+    ∷ by_a (Insert (codes "t") (Number (pos 5) ∷ ArrayText (codes "{1}") ∷ Null ∷ Null ∷ [])) inserted
     ∷ [])
 rewrites_refused = refl
 

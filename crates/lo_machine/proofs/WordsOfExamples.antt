@@ -1,5 +1,5 @@
 -- Words that the worked examples share: a run is written as a list of turns, each with its session, its request and its reply.
-use Rattle.std.specs.Prelude.{◌≡◌, ℕ, ℤ, pos, ◌==◌, List, [], ◌∷◌, Option, Some, codes, map, filter}
+use Rattle.std.specs.Prelude.{◌≡◌, ℕ, ℤ, pos, ◌==◌, List, [], ◌∷◌, Some, codes, map, filter}
 use Rattle.std.specs.List.{flat_map}
 use Rattle.lo_base.specs.declared.column.Column.{Column}
 use Rattle.lo_base.specs.declared.column.ColType.{ColType}
