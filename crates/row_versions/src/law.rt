@@ -1,0 +1,43 @@
+ghost use Rattle.std.specs.Prelude.{◌≡◌, ◌≤◌, ◌<◌, ◌+◌, ℕ, false, Bool, List, [], ◌∷◌, ◌++◌, length, map, Option, Contains};
+ghost use Rattle.lo_model.specs.declared.owner.Owner.TheVariants.{Running};
+ghost use Rattle.lo_model.specs.declared.viewer.Viewer.TheVariants.{Whole};
+ghost use Rattle.lo_model.specs.declared.viewer.Viewer.{Viewer};
+ghost use Rattle.lo_model.specs.Edit.{Edit};
+ghost use Rattle.lo_model.specs.Levels.{released, undone, committed};
+ghost use Rattle.lo_model.specs.View.{view};
+ghost use Rattle.xact_core.specs.declared.snapshot.Snapshot.{Snapshot};
+ghost use Rattle.xact_core.specs.Ends.{Opens, Turns, undo};
+ghost use Rattle.xact_core.specs.Kept.{kept_views};
+ghost use Rattle.xact_core.specs.Transactions.{Transactions, levels_of};
+ghost use Rattle.row_versions.specs.Calls.{Releases, UndoesLevel, Commits, Aborts, HoldsOthers, Ticks};
+ghost use Rattle.row_versions.specs.Looks.{HoldsReaders};
+ghost use Rattle.row_versions.specs.Stack.{Each, Pairwise, IsStack, IsFreeFor};
+ghost use Rattle.row_versions.specs.Stands.{Version, Stands, Fits, BusyAlike, IsNew, AddsOwn, Erases, made_now, after_all, standing, vacuumed};
+ghost use Rattle.row_versions.specs.Vacuum.{found, reclaimed, FoundUnlessErasure, OneOwner};
+
+/// The versions of a key that stand for the edits of a place do so after each call of the transactions.
+pub fn versions_stand<D, E, S>()
+    ensures released { (value : ℕ → D → S) (after : S → ℕ → E → S) (first : S) (s k : ℕ) (old new : Transactions) (vs : List (Version D)) (ys : List (Edit E)) → Releases s k old new → Stands old value after first vs ys → Stands new value after first vs (released s k ys) }
+    ensures undone { (value : ℕ → D → S) (after : S → ℕ → E → S) (first : S) (s k : ℕ) (old new : Transactions) (vs : List (Version D)) (ys : List (Edit E)) → UndoesLevel s k old new → Stands old value after first vs ys → Stands new value after first vs (undone s k ys) }
+    ensures committed { (value : ℕ → D → S) (after : S → ℕ → E → S) (first : S) (s : ℕ) (old new : Transactions) (vs : List (Version D)) (ys : List (Edit E)) → Commits s old new → Stands old value after first vs ys → Stands new value after first vs (committed s old.clock ys) }
+    ensures aborted { (value : ℕ → D → S) (after : S → ℕ → E → S) (first : S) (s : ℕ) (old new : Transactions) (vs : List (Version D)) (ys : List (Edit E)) → Aborts s old new → Stands old value after first vs ys → Stands new value after first vs (undone s 1 ys) }
+    ensures ticked { (value : ℕ → D → S) (after : S → ℕ → E → S) (first : S) (old new : Transactions) (vs : List (Version D)) (ys : List (Edit E)) → Ticks old new → Stands old value after first vs ys → Stands new value after first vs ys }
+    ensures opened { (value : ℕ → D → S) (after : S → ℕ → E → S) (first : S) (s : ℕ) (name : Option (List ℕ)) (old new : Transactions) (vs : List (Version D)) (ys : List (Edit E)) → 1 ≤ s → Opens s name old new → Stands old value after first vs ys → Stands new value after first vs ys }
+    ensures held { (value : ℕ → D → S) (after : S → ℕ → E → S) (first : S) (old new : Transactions) (vs : List (Version D)) (ys : List (Edit E)) → HoldsOthers old new → Stands old value after first vs ys → Stands new value after first vs ys }
+    // A put that makes of the place what an edit makes of it in the maker's own view.
+    ensures pushed { (value : ℕ → D → S) (after : S → ℕ → E → S) (first : S) (x : Transactions) (s : ℕ) (vs : List (Version D)) (ys : List (Edit E)) (put : Version D) (deed : E) → 1 ≤ s → 0 < length (levels_of x s) → HoldsReaders x → IsNew x s put → Each (λ (e : Edit E). IsFreeFor s e.owner) ys → value x.clock put.deed ≡ after (after_all after first (view (x.clock + 1) (Whole s) ys)) x.clock deed → Stands x value after first vs ys → Stands x value after first (vs ++ put ∷ []) (ys ++ made_now x s deed ∷ []) }
+    // An edit that touches the place and leaves it, for which nothing is put.
+    ensures touched { (value : ℕ → D → S) (after : S → ℕ → E → S) (first : S) (x : Transactions) (s : ℕ) (vs : List (Version D)) (ys : List (Edit E)) (deed : E) → 1 ≤ s → 0 < length (levels_of x s) → HoldsReaders x → Each (λ (e : Edit E). IsFreeFor s e.owner) ys → after_all after first (view (x.clock + 1) (Whole s) ys) ≡ after (after_all after first (view (x.clock + 1) (Whole s) ys)) x.clock deed → Stands x value after first vs ys → Stands x value after first vs (ys ++ made_now x s deed ∷ []) }
+    ensures vacuumed { (erases : D → Bool) (value : ℕ → D → S) (after : S → ℕ → E → S) (first : S) (x : Transactions) (vs : List (Version D)) (ys : List (Edit E)) → Erases erases value first → Stands x value after first vs ys → Stands x value after first (vacuumed erases x vs) ys }
+    // What a call that found no memory has put is gone with the level that it was made in.
+    ensures restored { (value : ℕ → D → S) (after : S → ℕ → E → S) (first : S) (s : ℕ) (old new : Transactions) (vs us : List (Version D)) (ys : List (Edit E)) → Turns (undo s (length (levels_of old s))) old new → AddsOwn old s vs us → Fits new us → Stands new value after first vs ys → Stands new value after first us ys }
+{}
+
+/// What a reclamation keeps of the versions of a key, and how many it leaves.
+pub fn reclamation_keeps<D>()
+    ensures leaves { (erases : D → Bool) (x : Transactions) (vs : List (Version D)) → standing x (vacuumed erases x vs) ≡ reclaimed erases (kept_views x) (standing x vs) }
+    ensures finds { (erases : D → Bool) (views : List Snapshot) (v : Snapshot) → Contains views v → (es : List (Edit D)) → found erases v (reclaimed erases views es) ≡ found erases v es }
+    ensures stack { (erases : D → Bool) (views : List Snapshot) (x : Transactions) (es : List (Edit D)) → IsStack x es → IsStack x (reclaimed erases views es) }
+    ensures puts { (erases : D → Bool) (views : List Snapshot) (es : List (Edit D)) → Each (FoundUnlessErasure erases views es) (reclaimed erases views es) }
+    ensures few { (erases : D → Bool) (views : List Snapshot) (es : List (Edit D)) → length (reclaimed erases views es) ≤ length views }
+{}
