@@ -20,7 +20,7 @@ use Rattle.xact_core.specs.Transactions.{Transactions}
 use Rattle.row_versions.specs.Stack.{Each, IsStack, owned, left_of, turned, KeepsStacks}
 use Rattle.row_versions.specs.Looks.{SeesAsBefore, IsCoveredBy}
 use Rattle.row_versions.specs.Vacuum.{is_open_to, any_open, reclaimed}
-use Rattle.row_versions.specs.Stands.{Version, edit_of, standing_of, standing, Fits, after_all, Agrees, HasMark, IsLinked, some_open, BusyAlike, opens_if, before_commit, replaces, StandsAt}
+use Rattle.row_versions.specs.Stands.{OpensAs, Version, edit_of, standing_of, standing, Fits, after_all, Agrees, HasMark, IsLinked, some_open, BusyAlike, opens_if, before_commit, replaces, StandsAt}
 use Rattle.row_versions.proofs.Stacking.{each_more, stack_turned}
 use Rattle.row_versions.proofs.Vacuuming.{reclaimed_any_open}
 
@@ -99,8 +99,6 @@ agrees_turned {D} {E} W W' after after' first turn xs ys covers link agrees = re
 
 -- for whom a place is open
 
-pub record OpensAs (turn : Owner → Option Owner) (before : Viewer → Viewer) : Type 0 where
-  pub opens : (viewer : Viewer) (w : Owner) → opens_if viewer (turn w) ≡ is_open_to (before viewer) w
 
 pub open_turned : {D : Type 0} (turn : Owner → Option Owner) (before : Viewer → Viewer) → OpensAs turn before → (viewer : Viewer) (es : List (Edit D)) → any_open viewer (turned turn es) ≡ any_open (before viewer) es
 open_turned turn before by_viewer viewer [] = refl

@@ -8,32 +8,9 @@ use Rattle.lo_model.specs.Edit.{Edit}
 use Rattle.xact_core.specs.declared.snapshot.Snapshot.{Snapshot}
 use Rattle.row_versions.specs.Stack.{Each, Pairwise}
 use Rattle.row_versions.specs.Vacuum.{reclaimed, OneOwner}
-use Rattle.row_versions.proofs.Counting.{Different, puts_in, clocks_left, IsHeldClock, left_is_held}
+use Rattle.row_versions.specs.Count.{Different, puts_in, clocks_left, IsHeldClock, Mark, mark, Apart, ListsAllHeld, blocks_in}
+use Rattle.row_versions.proofs.Counting.{left_is_held}
 use Rattle.row_versions.proofs.Keeping.{cons_cases, cons_rest, nil_none}
-
--- a block version of a store: its key, and the clock at which it was made
-pub record Mark : Type 0 where
-  pub key : ℕ
-  pub clock : ℕ
-
-abbrev pub mark : ℕ → ℕ → Mark
-mark key clock = record { key = key; clock = clock }
-
--- marks, each once
-abbrev pub Apart : List Mark → Type 0
-Apart ms = Pairwise (λ (a b : Mark). a ≢ b) ms
-
--- the held block versions of some keys, each once and no other. `edits` are the standing edits of a key
-pub record ListsAllHeld {D : Type 0} (erases : D → Bool) (views : List Snapshot) (keys : List ℕ) (edits : ℕ → List (Edit D)) (held : List Mark) : Type 0 where
-  pub once : Apart held
-  pub keyed : (m : Mark) → Contains held m → Contains keys m.key
-  pub only : (m : Mark) → Contains held m → IsHeldClock erases views (edits m.key) m.clock
-  pub each : (key clock : ℕ) → Contains keys key → IsHeldClock erases views (edits key) clock → Contains held (mark key clock)
-
--- how many blocks are in use after a reclamation
-abbrev pub blocks_in : {D : Type 0} → (erases : D → Bool) → List Snapshot → (keys : List ℕ) → (ℕ → List (Edit D)) → ℕ
-blocks_in erases views [] edits = 0
-blocks_in erases views (key ∷ keys) edits = puts_in erases (reclaimed erases views (edits key)) + blocks_in erases views keys edits
 
 -- marks, each once, that stand in another list are no more
 

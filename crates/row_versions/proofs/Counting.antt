@@ -9,6 +9,7 @@ use Rattle.lo_model.specs.declared.owner.Owner.TheVariants.{Running, Committed}
 use Rattle.lo_model.specs.Edit.{Edit}
 use Rattle.xact_core.specs.declared.snapshot.Snapshot.{Snapshot}
 use Rattle.xact_core.specs.Transactions.{Transactions, levels_of}
+use Rattle.row_versions.specs.Count.{count_of, puts_in, Different, IsHeldClock, ListsHeld, clocks_left}
 use Rattle.row_versions.specs.Stack.{Each, Pairwise, IsStack, owned, left_of, turned}
 use Rattle.row_versions.specs.Vacuum.{has_seen, last_seen, put_of, is_last, lasts, is_committed, trimmed, reclaimed, IsFound, FoundUnlessErasure, OneOwner, OtherClock}
 use Rattle.row_versions.specs.Stands.{Version, Fits, standing, IsSettled, vacuumed, made_now}
@@ -18,11 +19,6 @@ use Rattle.row_versions.proofs.Covering.{Among}
 use Rattle.row_versions.proofs.Vacuuming.{reclaimed_puts, found_left, reclaimed_clocks}
 use Rattle.xact_core.specs.Ends.{Turns}
 use Rattle.row_versions.proofs.Laws.{settled_stays, settled_turned}
-
--- how many pass a test
-abbrev pub count_of : {X : Type 0} → (X → Bool) → List X → ℕ
-count_of test [] = 0
-count_of test (x ∷ xs) = if test x then suc (count_of test xs) else count_of test xs
 
 -- No more are left of a key than views are kept.
 
@@ -106,29 +102,6 @@ pub owners_pushed : {D : Type 0} (x : Transactions) (s : ℕ) (deed : D) (es : L
 owners_pushed x s deed es now one = pairwise_end OneOwner es (made_now x s deed) one now
 
 -- The count of a key: the clocks of the puts that are left are just those of what kept views find, each once.
-
-abbrev pub puts_in : {D : Type 0} → (erases : D → Bool) → List (Edit D) → ℕ
-puts_in {D} erases es = count_of (λ (e : Edit D). not (erases e.deed)) es
-
--- clocks, each once
-abbrev pub Different : List ℕ → Type 0
-Different ns = Pairwise (λ (a b : ℕ). a ≢ b) ns
-
--- the block versions of a key: (key, clock) of what some kept view finds
-pub record IsHeldClock {D : Type 0} (erases : D → Bool) (views : List Snapshot) (es : List (Edit D)) (clock : ℕ) : Type 0 where
-  pub edit : Edit D
-  pub here : IsFound erases views es edit
-  pub is : edit.clock ≡ clock
-
--- a list has each of them, once, and no other
-pub record ListsHeld {D : Type 0} (erases : D → Bool) (views : List Snapshot) (es : List (Edit D)) (clocks : List ℕ) : Type 0 where
-  pub once : Different clocks
-  pub only : (clock : ℕ) → Contains clocks clock → IsHeldClock erases views es clock
-  pub each : (clock : ℕ) → IsHeldClock erases views es clock → Contains clocks clock
-
-abbrev pub clocks_left : {D : Type 0} → (erases : D → Bool) → List (Edit D) → List ℕ
-clocks_left erases [] = []
-clocks_left erases (e ∷ es) = if erases e.deed then clocks_left erases es else e.clock ∷ clocks_left erases es
 
 clocks_count : {D : Type 0} (erases : D → Bool) (es : List (Edit D)) → length (clocks_left erases es) ≡ puts_in erases es
 clocks_count erases [] = refl

@@ -147,3 +147,7 @@ pub record AddsOwn {D : Type 0} (x : Transactions) (s : ℕ) (old new : List (Ve
 -- an erasure gives the first value
 pub record Erases {D S : Type 0} (erases : D → Bool) (value : ℕ → D → S) (first : S) : Type 0 where
   pub gives : (clock : ℕ) (deed : D) → erases deed ≡ true → value clock deed ≡ first
+
+-- what an end makes of owners, told by who has them open: a viewer after it has open what another had before
+pub record OpensAs (turn : Owner → Option Owner) (before : Viewer → Viewer) : Type 0 where
+  pub opens : (viewer : Viewer) (w : Owner) → opens_if viewer (turn w) ≡ is_open_to (before viewer) w

@@ -13,7 +13,11 @@ ghost use Rattle.row_versions.specs.Calls.{Releases, UndoesLevel, Commits, Abort
 ghost use Rattle.row_versions.specs.Looks.{HoldsReaders};
 ghost use Rattle.row_versions.specs.Stack.{Each, Pairwise, IsStack, IsFreeFor};
 ghost use Rattle.row_versions.specs.Stands.{Version, Stands, Fits, BusyAlike, IsNew, AddsOwn, Erases, made_now, after_all, standing, vacuumed};
+ghost use Rattle.row_versions.specs.Store.{GoesWith};
+ghost use Rattle.row_versions.specs.declared.store.Store.{Store};
 ghost use Rattle.row_versions.specs.Vacuum.{found, reclaimed, FoundUnlessErasure, OneOwner};
+
+use crate::key::Key;
 
 /// The versions of a key that stand for the edits of a place do so after each call of the transactions.
 pub fn versions_stand<D, E, S>()
@@ -33,11 +37,22 @@ pub fn versions_stand<D, E, S>()
     ensures restored { (value : ℕ → D → S) (after : S → ℕ → E → S) (first : S) (s : ℕ) (old new : Transactions) (vs us : List (Version D)) (ys : List (Edit E)) → Turns (undo s (length (levels_of old s))) old new → AddsOwn old s vs us → Fits new us → Stands new value after first vs ys → Stands new value after first us ys }
 {}
 
-/// What a reclamation keeps of the versions of a key, and how many it leaves.
-pub fn reclamation_keeps<D>()
+/// What a vacuum keeps of the versions of a key, and how many it leaves.
+pub fn vacuum_keeps<D>()
     ensures leaves { (erases : D → Bool) (x : Transactions) (vs : List (Version D)) → standing x (vacuumed erases x vs) ≡ reclaimed erases (kept_views x) (standing x vs) }
     ensures finds { (erases : D → Bool) (views : List Snapshot) (v : Snapshot) → Contains views v → (es : List (Edit D)) → found erases v (reclaimed erases views es) ≡ found erases v es }
     ensures stack { (erases : D → Bool) (views : List Snapshot) (x : Transactions) (es : List (Edit D)) → IsStack x es → IsStack x (reclaimed erases views es) }
     ensures puts { (erases : D → Bool) (views : List Snapshot) (es : List (Edit D)) → Each (FoundUnlessErasure erases views es) (reclaimed erases views es) }
     ensures few { (erases : D → Bool) (views : List Snapshot) (es : List (Edit D)) → length (reclaimed erases views es) ≤ length views }
+{}
+
+/// A store that goes with its transactions does so after each call of them.
+pub fn store_goes<K: Key, D: Drop>()
+    ensures released { (s k : ℕ) (old new : Transactions) (store : Store K D) → Releases s k old new → GoesWith K.cmp old store → GoesWith K.cmp new store }
+    ensures undone { (s k : ℕ) (old new : Transactions) (store : Store K D) → UndoesLevel s k old new → GoesWith K.cmp old store → GoesWith K.cmp new store }
+    ensures committed { (s : ℕ) (old new : Transactions) (store : Store K D) → Commits s old new → GoesWith K.cmp old store → GoesWith K.cmp new store }
+    ensures aborted { (s : ℕ) (old new : Transactions) (store : Store K D) → Aborts s old new → GoesWith K.cmp old store → GoesWith K.cmp new store }
+    ensures ticked { (old new : Transactions) (store : Store K D) → Ticks old new → GoesWith K.cmp old store → GoesWith K.cmp new store }
+    ensures opened { (s : ℕ) (name : Option (List ℕ)) (old new : Transactions) (store : Store K D) → 1 ≤ s → Opens s name old new → GoesWith K.cmp old store → GoesWith K.cmp new store }
+    ensures held { (old new : Transactions) (store : Store K D) → HoldsOthers old new → GoesWith K.cmp old store → GoesWith K.cmp new store }
 {}

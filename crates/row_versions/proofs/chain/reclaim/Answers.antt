@@ -6,7 +6,7 @@ use Rattle.row_versions.proofs.Chaining.{reclaims}
 use Rattle.row_versions.proofs.chain.reclaim.Goals as goal
 
 pub returns : goal.returns
-returns c =
+returns g c =
     ap (map version_of) c.sweep.ensures
     ∙ (ap (λ es. map version_of (filter is_needed es)) c.trim.ensures
     ∙ (ap (λ es. map version_of (filter is_needed (unmarked c.args.core.now es))) c.mark_all.ensures

@@ -3,4 +3,4 @@ use Rattle.row_versions.specs.Chain.{unmarked}
 use Rattle.row_versions.proofs.chain.trim.Given as goal
 
 abbrev pub invariant-loop-i : goal.invariant-loop-i
-invariant-loop-i l = (take l.i l.entries.items ++ unmarked l.core (drop l.i l.entries.items) ≡ unmarked l.core l.fn.entries.items) × (length l.entries.items ≡ length l.fn.entries.items)
+invariant-loop-i g l = (take l.i l.entries.items ++ unmarked l.core (drop l.i l.entries.items) ≡ unmarked l.core l.fn.entries.items) × (length l.entries.items ≡ length l.fn.entries.items)

@@ -1,7 +1,7 @@
 use Rattle.row_versions.proofs.Vacuuming.{reclaimed_found, reclaimed_stack, reclaimed_puts}
 use Rattle.row_versions.proofs.Laws.{standing_vacuumed}
 use Rattle.row_versions.proofs.Counting.{reclaimed_few}
-use Rattle.row_versions.proofs.law.reclamation_keeps.Goals as goal
+use Rattle.row_versions.proofs.law.vacuum_keeps.Goals as goal
 
 pub returns-clause-leaves : goal.returns-clause-leaves
 returns-clause-leaves g c = standing_vacuumed
