@@ -83,6 +83,28 @@ other_was (Aborted s) since None t l apart is = is
 other_was (Aborted s) since (Some (Committed c)) t l apart is = is
 other_was (Aborted s) since (Some (Running u m)) t l apart is = grind (arith, nat_tests)
 
+-- whether an end commits at a clock or before it, if it commits
+abbrev pub CommitsBy : End → (clock : ℕ) → Type 0
+CommitsBy (Released s k) clock = Unit {0}
+CommitsBy (Undone s k n) clock = Unit {0}
+CommitsBy (Commit s c) clock = c ≤ clock
+CommitsBy (Aborted s) clock = Unit {0}
+
+-- what is committed after an end, was so before or is by the end
+pub committed_by : (e : End) (clock since : ℕ) (owner : Option Owner) (c : ℕ) → CommitsBy e clock → ((d : ℕ) → owner ≡ Some (Committed d) → d ≤ clock) → (fate_after e (fate since owner)).owner ≡ Some (Committed c) → c ≤ clock
+committed_by (Released s k) clock since None c by before is = absurd (none-some _ is)
+committed_by (Released s k) clock since (Some (Committed d)) c by before is = before c is
+committed_by (Released s k) clock since (Some (Running u m)) c by before is = absurd (grind (arith, nat_tests))
+committed_by (Undone s k n) clock since None c by before is = absurd (none-some _ is)
+committed_by (Undone s k n) clock since (Some (Committed d)) c by before is = before c is
+committed_by (Undone s k n) clock since (Some (Running u m)) c by before is = absurd (grind (arith, nat_tests))
+committed_by (Commit s d) clock since None c by before is = absurd (none-some _ is)
+committed_by (Commit s d) clock since (Some (Committed b)) c by before is = before c is
+committed_by (Commit s d) clock since (Some (Running u m)) c by before is = let at : c ≡ d = grind (arith, nat_tests) in rw at by
+committed_by (Aborted s) clock since None c by before is = absurd (none-some _ is)
+committed_by (Aborted s) clock since (Some (Committed d)) c by before is = before c is
+committed_by (Aborted s) clock since (Some (Running u m)) c by before is = absurd (grind (arith, nat_tests))
+
 -- the level at which a session's owner ran before its levels from one on went over into another
 pub record CameFrom (s from into : ℕ) (owner : Option Owner) (l : ℕ) : Type 0 where
   pub level : ℕ

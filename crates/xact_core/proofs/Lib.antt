@@ -1,5 +1,6 @@
 pub mod EndLaws
 mod Examples
+pub mod KeptViews
 pub mod Newest
 pub mod Opening
 pub mod Places

@@ -10,7 +10,7 @@ use Rattle.lo_model.specs.declared.owner.Owner.TheVariants.{Running}
 use Rattle.xact_core.specs.declared.fate.Fate.{Fate}
 use Rattle.xact_core.specs.Ends.{Turns, same}
 use Rattle.xact_core.specs.Fate.{is_some_from}
-use Rattle.xact_core.specs.Inside.{owner_at, is_among, IsSession, IsWell}
+use Rattle.xact_core.specs.Inside.{owner_at, is_among, IsSession, IsFate, IsWell}
 use Rattle.xact_core.specs.Opened.{Opened, with_level, running}
 use Rattle.xact_core.specs.Stamp.{owner_of}
 use Rattle.xact_core.specs.Transactions.{Transactions}
@@ -136,16 +136,25 @@ other_session fates s t l session apart well =
             let owner : owner_at (fates ++ new ∷ []) i ≡ new.owner = ap (owner_at (fates ++ new ∷ [])) here ∙ owner_last fates new in
             absurd (false≢true (sym idle ∙ ap (is_some_from t 0) (sym owner) ∙ runs))
 
-pub well_opened : (undos : ℕ) (sessions : List Opened) (fates : List Fate) (i s : ℕ) (old : Opened) (name : Option (List ℕ)) → s ≡ i + 1 → slice_get sessions i ≡ Some old → IsWell undos sessions fates → IsWell undos (slice_set sessions i (with_level name (length fates) old)) (fates ++ running s (length old.names + 1) ∷ [])
-well_opened undos sessions fates i s old name own is well =
+pub well_opened : (clock undos : ℕ) (sessions : List Opened) (fates : List Fate) (i s : ℕ) (old : Opened) (name : Option (List ℕ)) → s ≡ i + 1 → slice_get sessions i ≡ Some old → IsWell clock undos sessions fates → IsWell clock undos (slice_set sessions i (with_level name (length fates) old)) (fates ++ running s (length old.names + 1) ∷ [])
+well_opened clock undos sessions fates i s old name own is well =
     record {
       sixteen = length-set sessions i _ ∙ well.sixteen;
-      since = λ j x at. ⊎_elim (λ before. well.since j x before) (λ last. rw last.1 (omega arith)) (append_cases fates new x j at);
+      each_fate = λ j x at. ⊎_elim (λ before. well.each_fate j x before) (λ last. rw last.1 fate_new) (append_cases fates new x j at);
       each = λ j session at. each_at j session at (i == j) refl;
     }
   where
     new : Fate
     new = running s (length old.names + 1)
+
+    number : (1 ≤ s) × (s ≤ 16)
+    number = (omega (arith, own), omega (arith, own, well.sixteen, slice_get_within sessions i old is))
+
+    fate_new : IsFate clock undos new
+    fate_new = record { since = omega arith; session = λ t l is. of_new t l is; committed = λ c is. absurd (grind arith) }
+      where
+        of_new : (t l : ℕ) → new.owner ≡ Some (Running t l) → (1 ≤ t) × (t ≤ 16)
+        of_new t l is = let same : s ≡ t = grind arith in rw (← same) number
 
     added : Opened
     added = with_level name (length fates) old

@@ -104,38 +104,3 @@ kept_held x k place v at past is =
 
 pub contains_at : {A : Type 0} (xs : List A) (i : ℕ) (x : A) → slice_get xs i ≡ Some x → Contains xs x
 contains_at xs i x is = (i, slice_get_within xs i x is, get_or_from_slice_get xs i x x is)
-
-itself_at : (sessions : List Opened) (n : ℕ) → n < length sessions → opened_at sessions n ≡ slice_index_or sessions n (opened_at sessions n)
-itself_at sessions n within = sym (get_or_from_slice_get sessions n (opened_at sessions n) (opened_at sessions n) (slice_get-get_or sessions n (record { names = []; places = [] }) within))
-
--- a view of those of the sessions from a place on is one of all
-from_place : (clock : ℕ) (sessions : List Opened) (n : ℕ) (v : Snapshot) → n < length sessions → Contains (sessions_views clock (n + 1) (map names_of (drop n sessions))) v → Contains (sessions_views clock 1 (map names_of sessions)) v
-from_place clock sessions zero v within here = here
-from_place clock sessions (suc n) v within here =
-    let next : suc n ≡ n + 1 = omega arith in
-    let less : n < length sessions = omega arith in
-    let before : sessions_views clock (n + 1) (map names_of (drop n sessions)) ≡ session_views clock (n + 1) (opened_at sessions n).names ++ sessions_views clock (n + 1 + 1) (map names_of (drop (n + 1) sessions)) = from_session clock sessions n (opened_at sessions n) less (itself_at sessions n less) in
-    let later : Contains (sessions_views clock (n + 1 + 1) (map names_of (drop (n + 1) sessions))) v = subst (λ (m : ℕ). Contains (sessions_views clock (m + 1) (map names_of (drop m sessions))) v) next here in
-    from_place clock sessions n v less (subst (λ (views : List Snapshot). Contains views v) (sym before) (Contains-append_right (session_views clock (n + 1) (opened_at sessions n).names) (sessions_views clock (n + 1 + 1) (map names_of (drop (n + 1) sessions))) v later))
-
-some_view : (names : List (Option (List ℕ))) → 0 < length names → 0 < views_of names
-some_view [] some = some
-some_view (name ∷ names) some = omega arith
-
--- the whole view of a session with a transaction is kept
-pub whole_kept : (x : Inside) (s : ℕ) → length x.sessions.items ≡ 16 → 1 ≤ s → s ≤ 16 → 0 < length (opened_at x.sessions.items (s - 1)).names → Contains (kept_views (seen_of x)) (view_at (x.clock + 1) (Whole s))
-whole_kept x s sixteen low high some =
-    Contains-append_right (view_at (x.clock + 1) Nobody ∷ []) (sessions_views (x.clock + 1) 1 (map names_of x.sessions.items) ++ x.held.items) own
-    (Contains-append_left (sessions_views (x.clock + 1) 1 (map names_of x.sessions.items)) x.held.items own (from_place (x.clock + 1) x.sessions.items (s - 1) own within (contains_at _ 0 own first)))
-  where
-    own : Snapshot
-    own = view_at (x.clock + 1) (Whole s)
-
-    within : s - 1 < length x.sessions.items
-    within = omega arith
-
-    number : s - 1 + 1 ≡ s
-    number = omega arith
-
-    first : slice_get (sessions_views (x.clock + 1) (s - 1 + 1) (map names_of (drop (s - 1) x.sessions.items))) 0 ≡ Some own
-    first = found_in_session (x.clock + 1) x.sessions.items (s - 1) 0 (opened_at x.sessions.items (s - 1)) within (itself_at x.sessions.items (s - 1) within) (some_view (opened_at x.sessions.items (s - 1)).names some) ∙ ap (λ (n : ℕ). Some (view_at (x.clock + 1) (Whole n))) number

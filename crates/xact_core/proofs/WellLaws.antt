@@ -1,6 +1,6 @@
-use Rattle.std.proofs.Common.{ℕ, ◌+◌, ◌-◌, ◌<◌, ◌≤◌, ◌≡◌, ◌≢◌, Bool, true, false, List, [], length, take, Option, Some, None, refl, ap, sym, subst, ◌∙◌, arith, length-set}
+use Rattle.std.proofs.Common.{ℕ, ◌+◌, ◌-◌, ◌<◌, ◌≤◌, ◌≡◌, ◌≢◌, ◌⊎◌, inl, inr, Bool, true, false, List, [], length, take, Option, Some, None, refl, ap, sym, subst, ◌∙◌, arith, length-set}
 use Rattle.std.specs.Prelude.{option_map, option_and_then, slice_get, slice_set, slice_index, nat_le, ◌==◌, if◌then◌else◌}
-use Rattle.std.proofs.lemmas.Bool.{false≢true}
+use Rattle.std.proofs.lemmas.Bool.{false≢true, cases_eq}
 use Rattle.std.proofs.lemmas.Bool.Decides.{nat_tests}
 use Rattle.std.proofs.lemmas.List.{length-take-le}
 use Rattle.std.proofs.lemmas.Option.{none-some, same_Some, slice_get_within}
@@ -12,11 +12,11 @@ use Rattle.xact_core.specs.declared.fate.End.TheVariants.{Released, Undone, Comm
 use Rattle.xact_core.specs.declared.stamp.Stamp.{Stamp}
 use Rattle.xact_core.specs.Ends.{Turns}
 use Rattle.xact_core.specs.Fate.{is_some_from, fate_after, turned_at}
-use Rattle.xact_core.specs.Inside.{owner_at, is_among, IsSession, IsWell}
+use Rattle.xact_core.specs.Inside.{owner_at, is_among, IsSession, IsFate, IsWell}
 use Rattle.xact_core.specs.Opened.{Opened}
 use Rattle.xact_core.specs.Stamp.{owner_in, IsIssued}
 use Rattle.xact_core.specs.Transactions.{Transactions}
-use Rattle.xact_core.proofs.EndLaws.{fate, session_of, twice_after, other_after, other_was, CameFrom, released_from, undone_from}
+use Rattle.xact_core.proofs.EndLaws.{fate, session_of, twice_after, other_after, other_was, CommitsBy, committed_by, CameFrom, released_from, undone_from}
 use Rattle.xact_core.proofs.Places.{set_here, set_other, turned_at_get, length-turned_at}
 
 -- each fate is what an end made of it
@@ -211,11 +211,11 @@ ended_session e old new each ends =
 
 -- All sessions after an end
 
-pub well_ended : (e : End) (undos undos' : ℕ) (sessions : List Opened) (fates : List Fate) (i : ℕ) (old new : Opened) → session_of e ≡ i + 1 → slice_get sessions i ≡ Some old → ((since : ℕ) (owner : Option Owner) → since ≤ undos → (fate_after e (fate since owner)).since ≤ undos') → IsSession (turned_at (fate_after e) old.places fates) (i + 1) new → IsWell undos sessions fates → IsWell undos' (slice_set sessions i new) (turned_at (fate_after e) old.places fates)
-well_ended e undos undos' sessions fates i old new own is keeps well_new well =
+pub well_ended : (e : End) (clock undos undos' : ℕ) (sessions : List Opened) (fates : List Fate) (i : ℕ) (old new : Opened) → session_of e ≡ i + 1 → CommitsBy e clock → slice_get sessions i ≡ Some old → ((since : ℕ) (owner : Option Owner) → since ≤ undos → (fate_after e (fate since owner)).since ≤ undos') → IsSession (turned_at (fate_after e) old.places fates) (i + 1) new → IsWell clock undos sessions fates → IsWell clock undos' (slice_set sessions i new) (turned_at (fate_after e) old.places fates)
+well_ended e clock undos undos' sessions fates i old new own by is keeps well_new well =
     record {
       sixteen = length-set sessions i new ∙ well.sixteen;
-      since = λ j x now. since_at j x (slice_get fates j) refl (sym (each.at j) ∙ now);
+      each_fate = λ j x now. fate_at j x (slice_get fates j) refl (sym (each.at j) ∙ now);
       each = λ j session at. each_at j session at (i == j) refl;
     }
   where
@@ -225,9 +225,24 @@ well_ended e undos undos' sessions fates i old new own is keeps well_new well =
     each : EachTurned e fates (turned_at (fate_after e) old.places fates)
     each = all_turned e fates old before
 
-    since_at : (j : ℕ) (x : Fate) (o : Option Fate) → slice_get fates j ≡ o → option_map (fate_after e) o ≡ Some x → x.since ≤ undos'
-    since_at j x None was now = absurd (none-some _ now)
-    since_at j x (Some y) was now = subst (λ (z : Fate). z.since ≤ undos') (same_Some _ _ now) (keeps y.since y.owner (well.since j y was))
+    numbered : (1 ≤ session_of e) × (session_of e ≤ 16)
+    numbered = (omega (arith, own), omega (arith, own, well.sixteen, slice_get_within sessions i old is))
+
+    by_session : (t l : ℕ) (x : Fate) → IsFate clock undos x → (fate_after e x).owner ≡ Some (Running t l) → (t ≡ session_of e) ⊎ (t ≡ session_of e → ⊥) → (1 ≤ t) × (t ≤ 16)
+    by_session t l x before runs (inl same) = rw same numbered
+    by_session t l x before runs (inr apart) = before.session t l (other_was e x.since x.owner t l apart runs)
+
+    fate_ended : (x : Fate) → IsFate clock undos x → IsFate clock undos' (fate_after e x)
+    fate_ended x before =
+        record {
+          since = keeps x.since x.owner before.since;
+          session = λ t l runs. by_session t l x before runs (cases_eq t (session_of e));
+          committed = λ c at. committed_by e clock x.since x.owner c by before.committed at;
+        }
+
+    fate_at : (j : ℕ) (x : Fate) (o : Option Fate) → slice_get fates j ≡ o → option_map (fate_after e) o ≡ Some x → IsFate clock undos' x
+    fate_at j x None was now = absurd (none-some _ now)
+    fate_at j x (Some y) was now = subst (IsFate clock undos') (same_Some _ _ now) (fate_ended y (well.each_fate j y was))
 
     each_at : (j : ℕ) (session : Opened) → slice_get (slice_set sessions i new) j ≡ Some session → (b : Bool) → (i == j) ≡ b → IsSession (turned_at (fate_after e) old.places fates) (j + 1) session
     each_at j session at true same =

@@ -1,4 +1,5 @@
-use Rattle.std.specs.Prelude.{ℕ, ◌+◌, ◌≤◌, ◌≡◌, List, [], ◌∷◌, ◌++◌, length, Option, Some, None, option_and_then, if◌then◌else◌}
+-- What the beginning and the end of a level, or of a transaction, do to the transactions.
+use Rattle.std.specs.Prelude.{ℕ, ◌+◌, ◌≤◌, ◌≡◌, List, [], ◌∷◌, ◌++◌, length, take, Option, Some, None, option_and_then, if◌then◌else◌}
 use Rattle.lo_model.specs.declared.owner.Owner.{Owner}
 use Rattle.lo_model.specs.Levels.{is_from_level, released_owner, committed_owner}
 use Rattle.xact_core.specs.declared.stamp.Stamp.{Stamp}
@@ -36,3 +37,12 @@ pub record Opens (session : ℕ) (name : Option (List ℕ)) (old new : Transacti
   pub undos : new.undos ≡ old.undos
   pub held : new.held ≡ old.held
   pub views : length (kept_views new) ≤ length (kept_views old) + 2
+
+-- An end of a session's levels but the first ones, or of its transaction, of which no level is left: what it makes of
+-- each owner. Neither the clock changes nor what is held, and no view more is kept.
+pub record Ends (turn : Owner → Option Owner) (session left : ℕ) (old new : Transactions) : Type 0 where
+  pub levels : HasLevels session (take left (levels_of old session)) old new
+  pub owners : Turns turn old new
+  pub clock : new.clock ≡ old.clock
+  pub held : new.held ≡ old.held
+  pub views : length (kept_views new) ≤ length (kept_views old)

@@ -1,3 +1,4 @@
+pub mod EditLaws
 pub mod Ends
 pub mod Fate
 pub mod Inside

@@ -1,4 +1,5 @@
-use Rattle.std.specs.Prelude.{ℕ, ◌-◌, ◌≤◌, ◌≡◌, ◌≢◌, List, [], Option, Some, slice_get, slice_set, slice_index_or}
+-- The transactions as contracts see them, the levels of a session, and names of levels.
+use Rattle.std.specs.Prelude.{ℕ, zero, suc, ◌-◌, ◌≤◌, ◌≡◌, ◌≢◌, List, [], Option, Some, replicate, slice_get, slice_set, slice_index_or}
 use Rattle.xact_core.specs.declared.fate.Fate.{Fate}
 use Rattle.xact_core.specs.declared.snapshot.Snapshot.{Snapshot}
 
@@ -12,13 +13,22 @@ pub record Transactions : Type 0 where
   pub fates : List Fate
   pub held : List Snapshot
 
--- the names of a session's levels, from level 1 on
-abbrev pub levels_of : Transactions → (session : ℕ) → List (Option (List ℕ))
-levels_of x s = slice_index_or x.levels (s - 1) []
+-- sixteen sessions at clock 0, of which none has a transaction
+abbrev pub beginning : Transactions
+beginning = record { clock = 0; undos = 0; levels = replicate 16 []; fates = []; held = [] }
 
--- one session has these levels, and every other one those that it had
+-- the names of a session's levels, from level 1 on. Numbers of sessions begin at 1, so session 0 has none
+abbrev pub levels_of : Transactions → (session : ℕ) → List (Option (List ℕ))
+levels_of x zero = []
+levels_of x (suc i) = slice_index_or x.levels i []
+
+-- One of the sixteen sessions has these levels, and every other one those that it had.
 pub record HasLevels (session : ℕ) (names : List (Option (List ℕ))) (old new : Transactions) : Type 0 where
+  pub low : 1 ≤ session
+  pub high : session ≤ 16
   pub levels : new.levels ≡ slice_set old.levels (session - 1) names
+  pub own : levels_of new session ≡ names
+  pub others : (t : ℕ) → t ≢ session → levels_of new t ≡ levels_of old t
 
 -- no level has the name
 pub record HasNo (levels : List (Option (List ℕ))) (name : List ℕ) : Type 0 where

@@ -12,7 +12,7 @@ mod snapshot;
 mod stamp;
 mod xacts;
 
-pub use law::laws_of_views;
+pub use law::{laws_of_kept_views, laws_of_views};
 pub use snapshot::{Hold, Snapshot};
 pub use stamp::Stamp;
 pub use xacts::Xacts;

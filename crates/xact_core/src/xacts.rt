@@ -1,6 +1,6 @@
-ghost use Rattle.std.specs.Prelude.{◌≡◌, ℕ, true, false, ◌<◌, ◌≤◌, ◌+◌, ◌-◌, ◌^◌, ◌∷◌, ◌++◌, [], Some, None, length, map, sum_by, take, replicate, All, slice_set, OnOk, OnErr, IfOk, MatchOption, Contains, slice_get};
+ghost use Rattle.std.specs.Prelude.{◌≡◌, ℕ, true, false, ◌<◌, ◌≤◌, ◌+◌, ◌-◌, ◌^◌, ◌∷◌, ◌++◌, [], Some, None, length, map, sum_by, take, All, slice_set, OnOk, OnErr, IfOk, MatchOption, Contains, IsPermutation, slice_get};
 ghost use Rattle.xact_core.specs.Inside.{names_of, views_in};
-ghost use Rattle.xact_core.specs.Kept.{view_at, viewer_of, sessions_views};
+ghost use Rattle.xact_core.specs.Kept.{view_at, viewer_of, sessions_views, TakesOut};
 ghost use Rattle.xact_core.specs.Opened.{opened_at, with_first, with_none, IsOpened, IsEnded};
 
 use crate::fate::{End, Fate, turn};
@@ -39,18 +39,17 @@ impl Model for Xacts {
 
 impl Xacts {
     ghost use Rattle.lo_model.specs.declared.owner.Owner.TheVariants.{Running};
-    ghost use Rattle.xact_core.specs.Transactions.{levels_of, HasLevels, HasNo, IsNewest};
-    ghost use Rattle.xact_core.specs.Stamp.{made_at, owner_of, IsIssued, sees_stamp};
-    ghost use Rattle.xact_core.specs.Ends.{Turns, same, release, undo, commit_at, Opens};
-    ghost use Rattle.xact_core.specs.Kept.{kept_views, TakesOut};
+    ghost use Rattle.xact_core.specs.Transactions.{beginning, levels_of, HasNo, IsNewest};
+    ghost use Rattle.xact_core.specs.Stamp.{made_at, owner_of, IsIssued, HasOwners, RunsWithin, sees_stamp, SeesSame};
+    ghost use Rattle.xact_core.specs.Ends.{Turns, same, release, undo, commit_at, Opens, Ends};
+    ghost use Rattle.xact_core.specs.Kept.{current, current_committed, kept_views, HoldsOthers, LooksWhole, HoldsWholeViews};
     ghost use Rattle.xact_core.specs.Laws.{looks_as, before_release, before_undo, SeesAs, SparesOthers, ShowsFrom};
     ghost use Rattle.xact_core.specs.declared.snapshot.Snapshot.{Snapshot};
     ghost use Rattle.xact_core.specs.declared.stamp.Stamp.{Stamp};
-    ghost use Rattle.lo_model.specs.declared.viewer.Viewer.TheVariants.{Nobody, Whole};
 
     /// Transactions of `SESSIONS` sessions, of which none has one open, at clock 0.
     pub fn new(alloc: Global) -> Result<Xacts, NoMemory>
-        ensures { IfOk result (λ x. x ≡ record { clock = 0; undos = 0; levels = replicate 16 []; fates = []; held = [] }) }
+        ensures { IfOk result (λ x. x ≡ beginning) }
     {
         let mut sessions = Vec::with_capacity(alloc, SESSIONS as usize)?;
         for _number in 0..SESSIONS {
@@ -69,7 +68,8 @@ impl Xacts {
     pub fn tick(&mut self)
         requires { self.old.clock < 2 ^ 63 }
         ensures clock { self.new ≡ record self.old { clock = self.old.clock + 1 } }
-        ensures fewer { length (kept_views self.new) ≡ length (kept_views self.old) }
+        ensures owners { Turns same self.old self.new }
+        ensures views { length (kept_views self.new) ≡ length (kept_views self.old) }
     {
         self.clock += 1;
     }
@@ -112,8 +112,10 @@ impl Xacts {
     /// The number of the session's levels: 0 outside a transaction.
     pub fn levels(&self, s: SessionNo) -> u64
         ensures count { result ≡ length (levels_of self.now s) }
-        // Each open edit of the session stands at one of them.
-        ensures stamps { (st : Stamp) (l : ℕ) → owner_of self.now st ≡ Some (Running s l) → (1 ≤ l) × (l ≤ result) }
+        ensures sixteen { length self.now.levels ≡ 16 }
+        // Each edit is a session's, at one of its levels, or a commit's. The session's own stand at one of these.
+        ensures owners { HasOwners self.now }
+        ensures stamps { RunsWithin self.now s result }
     {
         self.sessions[s.place()].levels() as u64
     }
@@ -129,11 +131,8 @@ impl Xacts {
     pub fn release_level(&mut self, s: SessionNo, level: u64)
         requires low { 2 ≤ level }
         requires high { level ≤ length (levels_of self.old s) }
-        ensures owners { Turns (release s level) self.old self.new }
-        ensures levels { HasLevels s (take (level - 1) (levels_of self.old s)) self.old self.new }
+        ensures ends { Ends (release s level) s (level - 1) self.old self.new }
         ensures undos { self.new.undos ≡ self.old.undos }
-        ensures rest { (self.new.clock ≡ self.old.clock) × (self.new.held ≡ self.old.held) }
-        ensures fewer { length (kept_views self.new) ≤ length (kept_views self.old) }
 
         // Each view has what another had before: the session's whole one what it had, and those of others too.
         ensures views { SeesAs (before_release s level) self.old self.new }
@@ -154,11 +153,8 @@ impl Xacts {
         requires low { 1 ≤ level }
         requires high { level ≤ length (levels_of self.old s) }
         requires undos { self.old.undos < 2 ^ 63 }
-        ensures owners { Turns (undo s level) self.old self.new }
-        ensures levels { HasLevels s (take level (levels_of self.old s)) self.old self.new }
+        ensures ends { Ends (undo s level) s level self.old self.new }
         ensures undos { self.new.undos ≡ self.old.undos + 1 }
-        ensures rest { (self.new.clock ≡ self.old.clock) × (self.new.held ≡ self.old.held) }
-        ensures fewer { length (kept_views self.new) ≤ length (kept_views self.old) }
 
         // Each view has what another had before: the session's whole one what was below the level.
         ensures views { SeesAs (before_undo s level) self.old self.new }
@@ -172,11 +168,8 @@ impl Xacts {
     /// Commits the session's transaction at the present clock.
     pub fn commit(&mut self, s: SessionNo)
         requires { 0 < length (levels_of self.old s) }
-        ensures owners { Turns (commit_at s self.old.clock) self.old self.new }
-        ensures levels { HasLevels s [] self.old self.new }
+        ensures ends { Ends (commit_at s self.old.clock) s 0 self.old self.new }
         ensures undos { self.new.undos ≡ self.old.undos }
-        ensures rest { (self.new.clock ≡ self.old.clock) × (self.new.held ≡ self.old.held) }
-        ensures fewer { length (kept_views self.new) ≤ length (kept_views self.old) }
 
         // Later views have all of the session's edits, and earlier ones none. No other edit comes or goes.
         ensures views { ShowsFrom s self.old.clock self.old self.new }
@@ -188,11 +181,8 @@ impl Xacts {
     /// Undoes the session's transaction, and ends it.
     pub fn abort(&mut self, s: SessionNo)
         requires { 0 < length (levels_of self.old s) }
-        ensures owners { Turns (undo s 1) self.old self.new }
-        ensures levels { HasLevels s [] self.old self.new }
+        ensures ends { Ends (undo s 1) s 0 self.old self.new }
         ensures undos { self.new.undos ≡ self.old.undos }
-        ensures rest { (self.new.clock ≡ self.old.clock) × (self.new.held ≡ self.old.held) }
-        ensures fewer { length (kept_views self.new) ≤ length (kept_views self.old) }
 
         // Each view has what another had before: the session's whole one what was below level 1.
         ensures views { SeesAs (before_undo s 1) self.old self.new }
@@ -210,7 +200,7 @@ impl Xacts {
         ensures issued { IsIssued self.now result }
 
         // The session sees the edit at once, and no other sees it, nor does any view of this clock or before.
-        ensures own { sees_stamp self.now (view_at (self.now.clock + 1) (Whole s)) result ≡ true }
+        ensures own { sees_stamp self.now (current self.now s) result ≡ true }
         ensures hidden { (v : Snapshot) → looks_as s v.viewer ≡ false → sees_stamp self.now v result ≡ false }
         ensures later { (v : Snapshot) → v.clock ≤ self.now.clock → sees_stamp self.now v result ≡ false }
     {
@@ -221,8 +211,10 @@ impl Xacts {
     /// The view that the session has now: what is committed, and its own open edits. The clock is one above the present
     /// one, so that a request sees its own edits.
     pub fn snapshot(&self, s: SessionNo) -> Snapshot
-        ensures view { result ≡ view_at (self.now.clock + 1) (Whole s) }
+        ensures view { result ≡ current self.now s }
         ensures kept { 0 < length (levels_of self.now s) → Contains (kept_views self.now) result }
+        // Without a transaction it has what the view of what is committed has.
+        ensures none { levels_of self.now s ≡ [] → SeesSame self.now result (current_committed self.now) }
     {
         // Numbers of sessions begin at 1.
         let _ = s.number();
@@ -234,7 +226,7 @@ impl Xacts {
 
     /// The view of what is committed.
     pub fn committed(&self) -> Snapshot
-        ensures view { result ≡ view_at (self.now.clock + 1) Nobody }
+        ensures view { result ≡ current_committed self.now }
         ensures kept { Contains (kept_views self.now) result }
     {
         Snapshot {
@@ -295,7 +287,11 @@ impl Xacts {
         ensures view { IfOk result (λ h. h ≡ snap) }
         ensures ok { OnOk result (self.new ≡ record self.old { held = self.old.held ++ snap ∷ [] }) }
         ensures held { IfOk result (λ h. Contains self.new.held h) }
+        ensures views { OnOk result (length (kept_views self.new) ≡ length (kept_views self.old) + 1) }
         ensures err { OnErr result (self.new ≡ self.old) }
+        ensures owners { Turns same self.old self.new }
+        ensures others { HoldsOthers self.old self.new }
+        ensures whole { LooksWhole snap.viewer → HoldsWholeViews self.old → HoldsWholeViews self.new }
     {
         let hold = Hold::new(snap);
         self.held.push(hold.snapshot())?;
@@ -306,14 +302,26 @@ impl Xacts {
     pub fn let_go(&mut self, hold: Hold)
         requires { Contains self.old.held hold }
         ensures held { TakesOut hold self.old.held self.new.held }
-        ensures rest { self.new ≡ record self.old { held = self.new.held } }
+        // Whichever of equal views it was.
+        ensures order { IsPermutation self.old.held (hold ∷ self.new.held) }
+        ensures views { length (kept_views self.new) + 1 ≡ length (kept_views self.old) }
+        ensures owners { Turns same self.old self.new }
+        ensures others { HoldsOthers self.old self.new }
+        ensures whole { HoldsWholeViews self.old → HoldsWholeViews self.new }
     {
-        let view = hold.snapshot();
-        let Some(place) = self.held.iter().position(|held| held.is_same(&view)) else {
-            unreachable!()
-        };
-        self.held.remove(place);
+        take_out(&mut self.held, hold.snapshot());
     }
+}
+
+/// Takes a view out of those that are held, which has it.
+fn take_out(held: &mut Vec<Snapshot>, view: Snapshot)
+    requires { Contains held.old.items view }
+    ensures { TakesOut view held.old.items held.new.items }
+{
+    let Some(place) = held.iter().position(|held| held.is_same(&view)) else {
+        unreachable!()
+    };
+    held.remove(place);
 }
 
 /// Adds a level to a session, and the fate of what will be made in it.

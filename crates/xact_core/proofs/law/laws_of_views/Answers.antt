@@ -2,19 +2,19 @@ use Rattle.xact_core.proofs.ViewLaws.{released_views, undone_views, committed_la
 use Rattle.xact_core.proofs.law.laws_of_views.Goals as goal
 
 pub returns-clause-release : goal.returns-clause-release
-returns-clause-release g c = released_views
+returns-clause-release g c s k edits low = record { same = λ clock viewer. released_views s k clock viewer edits low }
 
 pub returns-clause-undo : goal.returns-clause-undo
-returns-clause-undo g c = undone_views
+returns-clause-undo g c s k edits = record { same = λ clock viewer. undone_views s k clock viewer edits }
 
 pub returns-clause-commit : goal.returns-clause-commit
-returns-clause-commit g c = committed_later
+returns-clause-commit g c s at edits = record {
+  later = λ n after. committed_later s at n edits after;
+  earlier = λ n viewer before apart. committed_earlier s at n viewer edits before apart;
+}
 
-pub returns-clause-earlier : goal.returns-clause-earlier
-returns-clause-earlier g c = committed_earlier
-
-pub returns-clause-hidden : goal.returns-clause-hidden
-returns-clause-hidden g c = open_hidden
-
-pub returns-clause-later : goal.returns-clause-later
-returns-clause-later g c = later_hidden
+pub returns-clause-add : goal.returns-clause-add
+returns-clause-add g c made deed edits = record {
+  hidden = λ s l clock viewer apart. open_hidden s l made clock viewer deed edits apart;
+  later = λ clock viewer owner early. later_hidden made clock viewer owner deed edits early;
+}

@@ -2,5 +2,5 @@ use Rattle.std.proofs.Common.{◌+◌, refl}
 use Rattle.xact_core.proofs.Steps.{count_stays}
 use Rattle.xact_core.proofs.xacts.Xacts.tick.Goals as goal
 
-pub returns-clause-fewer : goal.returns-clause-fewer
-returns-clause-fewer c = count_stays c.self.inside (record { clock = c.self.inside.clock + 1; undos = c.self.inside.undos; sessions = c.self.inside.sessions; fates = c.self.inside.fates; held = c.self.inside.held }) _ c.self.view_is refl refl
+pub returns-clause-views : goal.returns-clause-views
+returns-clause-views c = count_stays c.self.inside (record { clock = c.self.inside.clock + 1; undos = c.self.inside.undos; sessions = c.self.inside.sessions; fates = c.self.inside.fates; held = c.self.inside.held }) _ c.self.view_is refl refl
