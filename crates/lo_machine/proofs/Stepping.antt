@@ -1,5 +1,5 @@
 -- From what a request did, counted by one tick, to a step of every state that the engine stood for.
-use Rattle.std.proofs.Common.{◌≡◌, ℕ, ◌-◌, Bool, false, List, [], Option, replicate, refl, ◌∙◌, arith}
+use Rattle.std.proofs.Common.{◌≡◌, ◌≤◌, ℕ, zero, suc, ◌-◌, Bool, false, List, [], Option, replicate, refl, ◌∙◌, arith}
 use Rattle.std.specs.Prelude.{Result, Ok, Err, IfOk}
 use Rattle.std.specs.Result.{is_err}
 use Rattle.std.proofs.lemmas.List.{get_or-replicate}
@@ -18,6 +18,7 @@ use Rattle.lo_machine.specs.Run.{start}
 use Rattle.lo_machine.specs.Step.{State, outcome, reply_to, state_after}
 use Rattle.lo_machine.proofs.Keeping.{keeps_ticked}
 use Rattle.xact_core.specs.Stamp.{IsIssued}
+use Rattle.xact_core.specs.Transactions.{beginning, levels_of}
 
 -- the mark of want of memory is no part of what is kept
 abbrev marked : Engine → Bool → Engine
@@ -42,11 +43,15 @@ serves old mid after s request (Err e) found ticks history does = record { ok = 
 
 -- at its start an engine stands for the empty database
 
+none_at_start : (s : ℕ) → s ≤ 16 → levels_of beginning s ≡ []
+none_at_start zero high = refl
+none_at_start (suc i) high = get_or-replicate {A = List (Option (List ℕ))} 16 i [] [] (omega arith)
+
 pub stands_at_start : (e : Engine) → e.blocks.xacts ≡ record { clock = 0; undos = 0; levels = replicate 16 []; fates = []; held = [] } → e.blocks.failed.items ≡ replicate 16 false → ((o : ℕ) → history_of e.history o ≡ []) → StandsFor e start.state
 stands_at_start e xacts failed none = record {
   told = λ _. record {
     time = rw xacts refl;
-    sessions = λ s low high. rw (xacts, failed, get_or-replicate {A = List (Option (List ℕ))} 16 (s - 1) [] [] (omega (arith, low, high)), get_or-replicate {A = Bool} 16 (s - 1) false false (omega (arith, low, high))) refl;
+    sessions = λ s low high. rw (xacts, failed, none_at_start s high, get_or-replicate {A = Bool} 16 (s - 1) false false (omega (arith, low, high))) refl;
     objects = λ o. rw (none o) refl;
     issued = λ o. rw (none o) (All-nil (λ (made : StampedChange). IsIssued e.blocks.xacts made.stamp));
   };
