@@ -19,7 +19,8 @@ use Rattle.xact_core.specs.Stamp.{sees_made}
 use Rattle.xact_core.specs.Transactions.{Transactions, levels_of, HasLevels}
 use Rattle.xact_core.proofs.ViewLaws.{sees_released, sees_undone, sees_other, undo_spares}
 use Rattle.row_versions.specs.Stack.{Each, Pairwise, Follows, IsOver, IsOwner, IsMade, IsStack}
-use Rattle.row_versions.specs.Looks.{KeptBy, ByNobody, ByWhole, ByBelow, ByHold, IsWhole, HoldsReaders, SeesAsBefore, IsCoveredBy, IsCovered}
+use Rattle.row_versions.specs.Looks.{SeesAsBefore, IsCoveredBy, IsCovered}
+use Rattle.xact_core.specs.Kept.{KeptBy, ByNobody, ByWhole, ByBelow, ByHold, LooksWhole, HoldsWholeViews}
 use Rattle.row_versions.proofs.Stacking.{each_more, each_both, each_all, levels_cases, levels_here, levels_apart}
 use Rattle.row_versions.proofs.Keeping.{kept_is, nobody_kept, whole_kept, below_kept, held_kept}
 
@@ -92,7 +93,7 @@ either_open {D} s test opens (e ∷ es) order = by_rest (either_open s test open
 
 -- Release: each kept view itself
 
-release_view : (s k : ℕ) (old new : Transactions) (v : Snapshot) → 1 ≤ s → 2 ≤ k → k ≤ length (levels_of old s) → HasLevels s (take (k - 1) (levels_of old s)) old new → new.clock ≡ old.clock → new.held ≡ old.held → HoldsReaders old → Contains (kept_views new) v → (before_release s k v.viewer ≡ v.viewer) × Contains (kept_views old) v
+release_view : (s k : ℕ) (old new : Transactions) (v : Snapshot) → 1 ≤ s → 2 ≤ k → k ≤ length (levels_of old s) → HasLevels s (take (k - 1) (levels_of old s)) old new → new.clock ≡ old.clock → new.held ≡ old.held → HoldsWholeViews old → Contains (kept_views new) v → (before_release s k v.viewer ≡ v.viewer) × Contains (kept_views old) v
 release_view s k old new v first low high has clock held readers kept = by_way (kept_is new v kept)
   where
     here : levels_of new s ≡ take (k - 1) (levels_of old s)
@@ -108,7 +109,7 @@ release_view s k old new v first low high has clock held readers kept = by_way (
         by_equal (inl is) = rw is (omega arith)
         by_equal (inr apart) = subst (λ (names : List (Option (List ℕ))). 0 < length names) (levels_apart s _ old new has t first low' apart) some
 
-    held_stays : (w : Viewer) → v.viewer ≡ w → IsWhole w → before_release s k w ≡ w
+    held_stays : (w : Viewer) → v.viewer ≡ w → LooksWhole w → before_release s k w ≡ w
     held_stays Nobody is whole = refl
     held_stays (Whole t) is whole = refl
     held_stays (Below t l) is whole = absurd whole
@@ -128,9 +129,9 @@ release_view s k old new v first low high has clock held readers kept = by_way (
     by_way (ByBelow t l low' one most is) = rw (is, clock) (below_case t l low' one most (cases_eq t s))
     by_way (ByHold in_held) =
         let was : Contains old.held v = subst (λ (views : List Snapshot). Contains views v) held in_held in
-        (held_stays v.viewer refl (readers.readers v was), held_kept old v was)
+        (held_stays v.viewer refl (readers.whole v was), held_kept old v was)
 
-pub release_covers : {D : Type 0} (s k : ℕ) (old new : Transactions) → 1 ≤ s → 2 ≤ k → k ≤ length (levels_of old s) → HasLevels s (take (k - 1) (levels_of old s)) old new → new.clock ≡ old.clock → new.held ≡ old.held → HoldsReaders old → (es : List (Edit D)) (v : Snapshot) → Contains (kept_views new) v → IsCovered (release s k) old es v
+pub release_covers : {D : Type 0} (s k : ℕ) (old new : Transactions) → 1 ≤ s → 2 ≤ k → k ≤ length (levels_of old s) → HasLevels s (take (k - 1) (levels_of old s)) old new → new.clock ≡ old.clock → new.held ≡ old.held → HoldsWholeViews old → (es : List (Edit D)) (v : Snapshot) → Contains (kept_views new) v → IsCovered (release s k) old es v
 release_covers {D} s k old new first low high has clock held readers es v kept =
     let stays : (before_release s k v.viewer ≡ v.viewer) × Contains (kept_views old) v = release_view s k old new v first low high has clock held readers kept in
     record {
@@ -208,7 +209,7 @@ undo_held_own {D} s k n old es first low high stack held = by_case (either_open 
       alike = each_more (λ (e : Edit D). is_from_before s k n e ≡ false) (SeesAsBefore (undo s k) (view_at n (Whole s)) (view_at n (Whole s))) (λ e is. to_below e ∙ below_is_whole s k n e.clock e.owner is) es none;
     }
 
-pub undo_covers : {D : Type 0} (s k : ℕ) (old new : Transactions) → Undoes s k old new → HoldsReaders old → (es : List (Edit D)) → IsStack old es → (v : Snapshot) → Contains (kept_views new) v → IsCovered (undo s k) old es v
+pub undo_covers : {D : Type 0} (s k : ℕ) (old new : Transactions) → Undoes s k old new → HoldsWholeViews old → (es : List (Edit D)) → IsStack old es → (v : Snapshot) → Contains (kept_views new) v → IsCovered (undo s k) old es v
 undo_covers {D} s k old new by readers es stack v kept = by_way (kept_is new v kept)
   where
     whole_case : (t : ℕ) → 1 ≤ t → 0 < length (levels_of new t) → (t ≡ s) ⊎ (t ≡ s → ⊥) → IsCovered (undo s k) old es (view_at (old.clock + 1) (Whole t))
@@ -231,7 +232,7 @@ undo_covers {D} s k old new by readers es stack v kept = by_way (kept_is new v k
         let other : (t == s) ≡ false = grind (arith, nat_tests) in
         undo_itself s k old es (view_at (old.clock + 1) (Below t l)) (undo_spares s k (Below t l) other) (below_kept old t l low one (subst (λ (names : List (Option (List ℕ))). l ≤ length names) (by.others t low apart) most))
 
-    held_case : (n : ℕ) (w : Viewer) → IsWhole w → Contains old.held (view_at n w) → IsCovered (undo s k) old es (view_at n w)
+    held_case : (n : ℕ) (w : Viewer) → LooksWhole w → Contains old.held (view_at n w) → IsCovered (undo s k) old es (view_at n w)
     held_case n Nobody whole was = undo_itself s k old es (view_at n Nobody) refl (held_kept old (view_at n Nobody) was)
     held_case n (Below t l) whole was = absurd whole
     held_case n (Whole t) whole was = by_equal (cases_eq t s)
@@ -248,7 +249,7 @@ undo_covers {D} s k old new by readers es stack v kept = by_way (kept_is new v k
     by_way (ByBelow t l low one most is) = rw (is, by.clock) (below_case t l low one most (cases_eq t s))
     by_way (ByHold in_held) =
         let was : Contains old.held v = subst (λ (views : List Snapshot). Contains views v) by.held in_held in
-        held_case v.clock v.viewer (readers.readers v was) was
+        held_case v.clock v.viewer (readers.whole v was) was
 
 -- Commit: a later view of nobody was the session's whole one, and so was any other where the session has an open edit. An
 -- earlier one is itself, or what was committed
@@ -348,7 +349,7 @@ commit_early_own {D} s n old es early stack kept = by_case (either_open s (is_fr
       alike = each_more (λ (e : Edit D). is_from_before s 0 n e ≡ false) (SeesAsBefore (commit_at s old.clock) (view_at n (Whole s)) (view_at n (Whole s))) (λ e is. early_own s old.clock n e.clock e.owner early is) es none;
     }
 
-pub commit_covers : {D : Type 0} (s : ℕ) (old new : Transactions) → 1 ≤ s → 0 < length (levels_of old s) → HasLevels s [] old new → new.clock ≡ old.clock → new.held ≡ old.held → HoldsReaders old → (es : List (Edit D)) → IsStack old es → (v : Snapshot) → Contains (kept_views new) v → IsCovered (commit_at s old.clock) old es v
+pub commit_covers : {D : Type 0} (s : ℕ) (old new : Transactions) → 1 ≤ s → 0 < length (levels_of old s) → HasLevels s [] old new → new.clock ≡ old.clock → new.held ≡ old.held → HoldsWholeViews old → (es : List (Edit D)) → IsStack old es → (v : Snapshot) → Contains (kept_views new) v → IsCovered (commit_at s old.clock) old es v
 commit_covers {D} s old new first some has clock held readers es stack v kept = by_way (kept_is new v kept)
   where
     now : ℕ
@@ -362,7 +363,7 @@ commit_covers {D} s old new first some has clock held readers es stack v kept = 
     stays : (t : ℕ) → 1 ≤ t → 0 < length (levels_of new t) → levels_of new t ≡ levels_of old t
     stays t low more = levels_apart s _ old new has t first low (gone t more)
 
-    held_case : (n : ℕ) (w : Viewer) → IsWhole w → Contains old.held (view_at n w) → (n ≤ now) ⊎ (now < n) → IsCovered (commit_at s now) old es (view_at n w)
+    held_case : (n : ℕ) (w : Viewer) → LooksWhole w → Contains old.held (view_at n w) → (n ≤ now) ⊎ (now < n) → IsCovered (commit_at s now) old es (view_at n w)
     held_case n (Below t l) whole was when = absurd whole
     held_case n Nobody whole was (inl early) = commit_early_other s n Nobody old es early refl (held_kept old (view_at n Nobody) was)
     held_case n Nobody whole was (inr late) = commit_late_own s n Nobody old es first some (λ made w past past'. late_nobody s now n made w late past past') stack
@@ -384,7 +385,7 @@ commit_covers {D} s old new first some has clock held readers es stack v kept = 
     by_way (ByBelow t l low one most is) = rw (is, clock) (commit_late_other s (now + 1) (Below t l) old es first some (omega arith) stack (below_kept old t l low one (subst (λ (names : List (Option (List ℕ))). l ≤ length names) (stays t low (omega arith)) most)))
     by_way (ByHold in_held) =
         let was : Contains old.held v = subst (λ (views : List Snapshot). Contains views v) held in_held in
-        held_case v.clock v.viewer (readers.readers v was) was (either v.clock (cases_lt v.clock (now + 1)))
+        held_case v.clock v.viewer (readers.whole v was) was (either v.clock (cases_lt v.clock (now + 1)))
 
 -- Calls that change no owner
 

@@ -19,7 +19,8 @@ use Rattle.row_versions.specs.Stack.{Each, IsStack, KeepsStacks, IsFreeFor, turn
 use Rattle.std.specs.Cmp.{IsTotalOrder}
 use Rattle.std.specs.declared.cmp.Ordering.{Ordering}
 use Rattle.std.proofs.lemmas.Map.Lookups.{CmpEqualImpliesEq}
-use Rattle.row_versions.specs.Calls.{HoldsOthers, Ticks}
+use Rattle.row_versions.specs.Calls.{Ticks}
+use Rattle.xact_core.specs.Kept.{HoldsOthers}
 use Rattle.row_versions.specs.Store.{edits_at, versions_at, ListsUnsettled, AddsVersion, SameVersions, KeepsListed, GoesWith}
 use Rattle.row_versions.specs.Stands.{Version, standing, Fits, IsSettled, lowest_other, vacuumed}
 use Rattle.row_versions.specs.declared.store.Store.{Store}
@@ -70,16 +71,16 @@ module _ {K D : Type 0} (cmp : K → K → Ordering) (total : IsTotalOrder cmp) 
       by_case key (inr is) = inr is
 
   pub goes_released : (s k : ℕ) (old new : Transactions) (store : Store K D) → Releases s k old new → GoesWith cmp old store → GoesWith cmp new store
-  goes_released s k old new store by goes = goes_turned (release s k) old new store (λ c. refl) (release_keeps s k old new by.ends.number by.low by.high by.ends.levels by.ends.clock) by.ends.owners goes
+  goes_released s k old new store by goes = goes_turned (release s k) old new store (λ c. refl) (release_keeps s k old new by.ends.levels.low by.low by.high by.ends.levels by.ends.clock) by.ends.owners goes
 
   pub goes_undone : (s k : ℕ) (old new : Transactions) (store : Store K D) → UndoesLevel s k old new → GoesWith cmp old store → GoesWith cmp new store
-  goes_undone s k old new store by goes = goes_turned (undo s k) old new store (λ c. refl) (undo_keeps s k old new by.ends.number by.low by.high by.ends.levels by.ends.clock) by.ends.owners goes
+  goes_undone s k old new store by goes = goes_turned (undo s k) old new store (λ c. refl) (undo_keeps s k old new by.ends.levels.low by.low by.high by.ends.levels by.ends.clock) by.ends.owners goes
 
   pub goes_aborted : (s : ℕ) (old new : Transactions) (store : Store K D) → Aborts s old new → GoesWith cmp old store → GoesWith cmp new store
-  goes_aborted s old new store by goes = goes_turned (undo s 1) old new store (λ c. refl) (abort_keeps s old new by.ends.number by.ends.levels by.ends.clock) by.ends.owners goes
+  goes_aborted s old new store by goes = goes_turned (undo s 1) old new store (λ c. refl) (abort_keeps s old new by.ends.levels.low by.ends.levels by.ends.clock) by.ends.owners goes
 
   pub goes_committed : (s : ℕ) (old new : Transactions) (store : Store K D) → Commits s old new → GoesWith cmp old store → GoesWith cmp new store
-  goes_committed s old new store by goes = goes_turned (commit_at s old.clock) old new store (λ c. refl) (commit_keeps s old new by.ends.number by.ends.levels by.ends.clock) by.ends.owners goes
+  goes_committed s old new store by goes = goes_turned (commit_at s old.clock) old new store (λ c. refl) (commit_keeps s old new by.ends.levels.low by.ends.levels by.ends.clock) by.ends.owners goes
 
   -- through a put of a key that is not busy
   pub goes_added : (x : Transactions) (s : ℕ) (key : K) (deed : Option D) (old new : Store K D) → 1 ≤ s → 0 < length (levels_of x s) → lowest_other s (standing x (versions_at cmp old key)) ≡ None → AddsVersion cmp x s key deed old new → KeepsListed cmp x old new → GoesWith cmp x old → GoesWith cmp x new
@@ -147,4 +148,4 @@ module _ {K D : Type 0} (cmp : K → K → Ordering) (total : IsTotalOrder cmp) 
   goes_ticks old new store by goes = subst (λ (x : Transactions). GoesWith cmp x store) (sym by.is) (goes_ticked old store goes)
 
   pub goes_holds : (old new : Transactions) (store : Store K D) → HoldsOthers old new → GoesWith cmp old store → GoesWith cmp new store
-  goes_holds old new store by goes = subst (λ (x : Transactions). GoesWith cmp x store) (sym by.is) (goes_holding old new.held store goes)
+  goes_holds old new store by goes = subst (λ (x : Transactions). GoesWith cmp x store) (sym by.rest) (goes_holding old new.held store goes)

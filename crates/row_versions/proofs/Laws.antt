@@ -19,7 +19,8 @@ use Rattle.xact_core.specs.Kept.{view_at, kept_views}
 use Rattle.xact_core.specs.Stamp.{made_at, owner_of, IsIssued, sees_made, sees_stamp}
 use Rattle.xact_core.specs.Transactions.{Transactions, levels_of, HasLevels}
 use Rattle.row_versions.specs.Stack.{Each, IsOwner, IsMade, IsStack, owned, turned, KeepsStacks, IsFreeFor}
-use Rattle.row_versions.specs.Looks.{KeptBy, ByNobody, ByWhole, ByBelow, ByHold, IsWhole, HoldsReaders, IsLook, IsCovered}
+use Rattle.row_versions.specs.Looks.{IsLook, IsCovered}
+use Rattle.xact_core.specs.Kept.{KeptBy, ByNobody, ByWhole, ByBelow, ByHold, LooksWhole, HoldsWholeViews}
 use Rattle.row_versions.specs.Vacuum.{has_seen, last_in, last_seen, put_of, found, is_last, lasts, is_committed, trimmed, reclaimed}
 use Rattle.row_versions.specs.Stands.{Version, edit_of, standing_of, standing, Fits, after_all, HasMark, replaces, StandsAt, Stands, is_last_version, last_versions, is_gone, trimmed_versions, vacuumed, IsPutBy, IsSettled, IsNew, made_now, AddsOwn, Erases}
 use Rattle.row_versions.proofs.Stacking.{each_more, each_end, stack_pushed, release_keeps, undo_keeps, abort_keeps, commit_keeps, later_keeps, opens_more, levels_here, levels_apart}
@@ -29,11 +30,11 @@ use Rattle.row_versions.proofs.Vacuuming.{reclaimed_found, reclaimed_each, recla
 use Rattle.row_versions.proofs.Agreeing.{linked_each, stands_turned}
 
 module _ {D E S : Type 0} (value : ℕ → D → S) (after : S → ℕ → E → S) (first : S) where
-  pub stands_released : (s k : ℕ) (old new : Transactions) (vs : List (Version D)) (ys : List (Edit E)) → 1 ≤ s → 2 ≤ k → k ≤ length (levels_of old s) → Turns (release s k) old new → HasLevels s (take (k - 1) (levels_of old s)) old new → new.clock ≡ old.clock → new.held ≡ old.held → HoldsReaders old → Stands old value after first vs ys → Stands new value after first vs (turned (release s k) ys)
+  pub stands_released : (s k : ℕ) (old new : Transactions) (vs : List (Version D)) (ys : List (Edit E)) → 1 ≤ s → 2 ≤ k → k ≤ length (levels_of old s) → Turns (release s k) old new → HasLevels s (take (k - 1) (levels_of old s)) old new → new.clock ≡ old.clock → new.held ≡ old.held → HoldsWholeViews old → Stands old value after first vs ys → Stands new value after first vs (turned (release s k) ys)
   stands_released s k old new vs ys one low high turns has clock held readers stands =
       stands_turned (IsLook old) (IsLook new) value after first (release s k) old new vs ys (release_keeps s k old new one low high has clock) turns (release_covers s k old new one low high has clock held readers ys) stands
 
-  pub stands_undone : (s k : ℕ) (old new : Transactions) (vs : List (Version D)) (ys : List (Edit E)) → 1 ≤ s → 1 ≤ k → k ≤ length (levels_of old s) → Turns (undo s k) old new → HasLevels s (take k (levels_of old s)) old new → new.clock ≡ old.clock → new.held ≡ old.held → HoldsReaders old → Stands old value after first vs ys → Stands new value after first vs (turned (undo s k) ys)
+  pub stands_undone : (s k : ℕ) (old new : Transactions) (vs : List (Version D)) (ys : List (Edit E)) → 1 ≤ s → 1 ≤ k → k ≤ length (levels_of old s) → Turns (undo s k) old new → HasLevels s (take k (levels_of old s)) old new → new.clock ≡ old.clock → new.held ≡ old.held → HoldsWholeViews old → Stands old value after first vs ys → Stands new value after first vs (turned (undo s k) ys)
   stands_undone s k old new vs ys one low high turns has clock held readers stands =
       stands_turned (IsLook old) (IsLook new) value after first (undo s k) old new vs ys (undo_keeps s k old new one low high has clock) turns (undo_covers s k old new by readers ys stands.edits) stands
     where
@@ -43,7 +44,7 @@ module _ {D E S : Type 0} (value : ℕ → D → S) (after : S → ℕ → E →
       by : Undoes s k old new
       by = record { first = one; low = low; high = high; left = omega (arith, here); others = λ t low' apart. levels_apart s _ old new has t one low' apart; clock = clock; held = held }
 
-  pub stands_aborted : (s : ℕ) (old new : Transactions) (vs : List (Version D)) (ys : List (Edit E)) → 1 ≤ s → 0 < length (levels_of old s) → Turns (undo s 1) old new → HasLevels s [] old new → new.clock ≡ old.clock → new.held ≡ old.held → HoldsReaders old → Stands old value after first vs ys → Stands new value after first vs (turned (undo s 1) ys)
+  pub stands_aborted : (s : ℕ) (old new : Transactions) (vs : List (Version D)) (ys : List (Edit E)) → 1 ≤ s → 0 < length (levels_of old s) → Turns (undo s 1) old new → HasLevels s [] old new → new.clock ≡ old.clock → new.held ≡ old.held → HoldsWholeViews old → Stands old value after first vs ys → Stands new value after first vs (turned (undo s 1) ys)
   stands_aborted s old new vs ys one some turns has clock held readers stands =
       stands_turned (IsLook old) (IsLook new) value after first (undo s 1) old new vs ys (abort_keeps s old new one has clock) turns (undo_covers s 1 old new by readers ys stands.edits) stands
     where
@@ -53,13 +54,13 @@ module _ {D E S : Type 0} (value : ℕ → D → S) (after : S → ℕ → E →
       by : Undoes s 1 old new
       by = record { first = one; low = omega arith; high = omega (arith, some); left = omega (arith, here); others = λ t low' apart. levels_apart s _ old new has t one low' apart; clock = clock; held = held }
 
-  pub stands_committed : (s : ℕ) (old new : Transactions) (vs : List (Version D)) (ys : List (Edit E)) → 1 ≤ s → 0 < length (levels_of old s) → Turns (commit_at s old.clock) old new → HasLevels s [] old new → new.clock ≡ old.clock → new.held ≡ old.held → HoldsReaders old → Stands old value after first vs ys → Stands new value after first vs (turned (commit_at s old.clock) ys)
+  pub stands_committed : (s : ℕ) (old new : Transactions) (vs : List (Version D)) (ys : List (Edit E)) → 1 ≤ s → 0 < length (levels_of old s) → Turns (commit_at s old.clock) old new → HasLevels s [] old new → new.clock ≡ old.clock → new.held ≡ old.held → HoldsWholeViews old → Stands old value after first vs ys → Stands new value after first vs (turned (commit_at s old.clock) ys)
   stands_committed s old new vs ys one some turns has clock held readers stands =
       stands_turned (IsLook old) (IsLook new) value after first (commit_at s old.clock) old new vs ys (commit_keeps s old new one has clock) turns (commit_covers s old new one some has clock held readers ys stands.edits) stands
 
   -- calls that change no owner
 
-  turned_same : {X : Type 0} (es : List (Edit X)) → turned same es ≡ es
+  pub turned_same : {X : Type 0} (es : List (Edit X)) → turned same es ≡ es
   turned_same [] = refl
   turned_same (e ∷ es) = ap (λ rest. e ∷ rest) (turned_same es)
 
@@ -123,6 +124,10 @@ turned_undone {E} s k (e ∷ es) = by_test (is_from_level s k e.owner) refl (tur
 pub stands_edits : {D E S : Type 0} (value : ℕ → D → S) (after : S → ℕ → E → S) (first : S) (x : Transactions) (vs : List (Version D)) (ys zs : List (Edit E)) → ys ≡ zs → Stands x value after first vs ys → Stands x value after first vs zs
 stands_edits {D} {E} value after first x vs ys zs is stands = subst (λ (es : List (Edit E)). Stands x value after first vs es) is stands
 
+-- a place that nothing was done to
+pub stands_none : {D E S : Type 0} (value : ℕ → D → S) (after : S → ℕ → E → S) (first : S) (x : Transactions) → Stands {D = D} {E = E} x value after first [] []
+stands_none value after first x = record { fits = tt; versions = record { made = tt; order = tt }; edits = record { made = tt; order = tt }; linked = tt; same = record { same = λ v kept. refl } }
+
 -- One edit more
 
 pub standing_end : {D : Type 0} (x : Transactions) (v : Version D) (w : Owner) → owner_of x v.stamp ≡ Some w → (vs : List (Version D)) → standing x (vs ++ v ∷ []) ≡ standing x vs ++ edit_of v w ∷ []
@@ -150,13 +155,13 @@ whole_new x s t n (inl is) (inl late) = inr (record { new = grind (arith, nat_te
     as_own made (Committed a) past owner = let was : a ≤ x.clock = owner.1 in grind (arith, nat_tests)
     as_own made (Running u l) past owner = grind (arith, nat_tests)
 
-new_seen : (x : Transactions) (s : ℕ) (v : Snapshot) → HoldsReaders x → IsLook x v → NewSeen x s v
+new_seen : (x : Transactions) (s : ℕ) (v : Snapshot) → HoldsWholeViews x → IsLook x v → NewSeen x s v
 new_seen x s v readers kept = by_way (kept_is x v kept)
   where
     top : ℕ
     top = length (levels_of x s)
 
-    held_case : (n : ℕ) (w : Viewer) → IsWhole w → NewSeen x s (view_at n w)
+    held_case : (n : ℕ) (w : Viewer) → LooksWhole w → NewSeen x s (view_at n w)
     held_case n Nobody whole = inl (grind (arith, nat_tests))
     held_case n (Whole t) whole = whole_new x s t n (cases_eq t s) (cases_lt x.clock n)
     held_case n (Below t l) whole = absurd whole
@@ -169,7 +174,7 @@ new_seen x s v readers kept = by_way (kept_is x v kept)
     by_way (ByNobody is) = rw is (inl (grind (arith, nat_tests)))
     by_way (ByWhole t low some is) = rw is (whole_new x s t (x.clock + 1) (cases_eq t s) (cases_lt x.clock (x.clock + 1)))
     by_way (ByBelow t l low one most is) = rw is (below_case t l most (cases_eq t s))
-    by_way (ByHold held) = held_case v.clock v.viewer (readers.readers v held)
+    by_way (ByHold held) = held_case v.clock v.viewer (readers.whole v held)
 
 -- any view at all sees an edit that is made now as its maker's own view does, or not
 below_new : (x : Transactions) (s t k n : ℕ) → (t ≡ s) ⊎ (t ≡ s → ⊥) → (length (levels_of x s) < k) ⊎ (k ≤ length (levels_of x s)) → (x.clock < n) ⊎ (n ≤ x.clock) → NewSeen x s (view_at n (Below t k))
@@ -194,7 +199,7 @@ new_seen_any x s v = by_viewer v.clock v.viewer
     by_viewer n (Whole t) = whole_new x s t n (cases_eq t s) (cases_lt x.clock n)
     by_viewer n (Below t k) = below_new x s t k n (cases_eq t s) (cases_lt (length (levels_of x s)) k) (cases_lt x.clock n)
 
-view_same : {D : Type 0} (v u : Snapshot) (es : List (Edit D)) → Each (λ (e : Edit D). sees v.clock v.viewer e.clock e.owner ≡ sees u.clock u.viewer e.clock e.owner) es → view v.clock v.viewer es ≡ view u.clock u.viewer es
+pub view_same : {D : Type 0} (v u : Snapshot) (es : List (Edit D)) → Each (λ (e : Edit D). sees v.clock v.viewer e.clock e.owner ≡ sees u.clock u.viewer e.clock e.owner) es → view v.clock v.viewer es ≡ view u.clock u.viewer es
 view_same v u [] alike = refl
 view_same v u (e ∷ es) alike = let first : sees v.clock v.viewer e.clock e.owner ≡ sees u.clock u.viewer e.clock e.owner = alike.0 in rw (first, view_same v u es alike.1) refl
 
@@ -203,13 +208,13 @@ after_end after old [] e = refl
 after_end after old (f ∷ fs) e = after_end after (after old f.clock f.deed) fs e
 
 -- what a view makes of a place with one edit more
-after_unseen : {D S : Type 0} (after : S → ℕ → D → S) (first : S) (v : Snapshot) (es : List (Edit D)) (e : Edit D) → sees v.clock v.viewer e.clock e.owner ≡ false → after_all after first (view v.clock v.viewer (es ++ e ∷ [])) ≡ after_all after first (view v.clock v.viewer es)
+pub after_unseen : {D S : Type 0} (after : S → ℕ → D → S) (first : S) (v : Snapshot) (es : List (Edit D)) (e : Edit D) → sees v.clock v.viewer e.clock e.owner ≡ false → after_all after first (view v.clock v.viewer (es ++ e ∷ [])) ≡ after_all after first (view v.clock v.viewer es)
 after_unseen {D} after first v es e unseen =
     let front : view v.clock v.viewer (es ++ e ∷ []) ≡ view v.clock v.viewer es ++ view v.clock v.viewer (e ∷ []) = filter-append (sees_edit {D = D} v.clock v.viewer) es (e ∷ []) in
     let none : view v.clock v.viewer (e ∷ []) ≡ [] = rw unseen refl in
     ap (after_all after first) front ∙ rw none (ap (after_all after first) (append-nil (view v.clock v.viewer es)))
 
-after_seen : {D S : Type 0} (after : S → ℕ → D → S) (first : S) (v : Snapshot) (es : List (Edit D)) (e : Edit D) → sees v.clock v.viewer e.clock e.owner ≡ true → after_all after first (view v.clock v.viewer (es ++ e ∷ [])) ≡ after (after_all after first (view v.clock v.viewer es)) e.clock e.deed
+pub after_seen : {D S : Type 0} (after : S → ℕ → D → S) (first : S) (v : Snapshot) (es : List (Edit D)) (e : Edit D) → sees v.clock v.viewer e.clock e.owner ≡ true → after_all after first (view v.clock v.viewer (es ++ e ∷ [])) ≡ after (after_all after first (view v.clock v.viewer es)) e.clock e.deed
 after_seen {D} after first v es e seen =
     let front : view v.clock v.viewer (es ++ e ∷ []) ≡ view v.clock v.viewer es ++ view v.clock v.viewer (e ∷ []) = filter-append (sees_edit {D = D} v.clock v.viewer) es (e ∷ []) in
     let one : view v.clock v.viewer (e ∷ []) ≡ e ∷ [] = rw seen refl in
@@ -277,10 +282,10 @@ stands_touched_in {D} {E} {S} W value after first x s vs ys deed one some sees_n
         ∙ sym (after_seen after first v ys made own.new))))
 
 -- in the kept views
-pub stands_pushed : {D E S : Type 0} (value : ℕ → D → S) (after : S → ℕ → E → S) (first : S) (x : Transactions) (s : ℕ) (vs : List (Version D)) (ys : List (Edit E)) (put : Version D) (deed : E) → 1 ≤ s → 0 < length (levels_of x s) → HoldsReaders x → IsNew x s put → Each (λ (e : Edit E). IsFreeFor s e.owner) ys → value x.clock put.deed ≡ after (after_all after first (view (x.clock + 1) (Whole s) ys)) x.clock deed → Stands x value after first vs ys → Stands x value after first (vs ++ put ∷ []) (ys ++ made_now x s deed ∷ [])
+pub stands_pushed : {D E S : Type 0} (value : ℕ → D → S) (after : S → ℕ → E → S) (first : S) (x : Transactions) (s : ℕ) (vs : List (Version D)) (ys : List (Edit E)) (put : Version D) (deed : E) → 1 ≤ s → 0 < length (levels_of x s) → HoldsWholeViews x → IsNew x s put → Each (λ (e : Edit E). IsFreeFor s e.owner) ys → value x.clock put.deed ≡ after (after_all after first (view (x.clock + 1) (Whole s) ys)) x.clock deed → Stands x value after first vs ys → Stands x value after first (vs ++ put ∷ []) (ys ++ made_now x s deed ∷ [])
 stands_pushed value after first x s vs ys put deed one some readers new free makes stands = stands_pushed_in (IsLook x) value after first x s vs ys put deed one some (λ v kept. new_seen x s v readers kept) new free makes stands
 
-pub stands_touched : {D E S : Type 0} (value : ℕ → D → S) (after : S → ℕ → E → S) (first : S) (x : Transactions) (s : ℕ) (vs : List (Version D)) (ys : List (Edit E)) (deed : E) → 1 ≤ s → 0 < length (levels_of x s) → HoldsReaders x → Each (λ (e : Edit E). IsFreeFor s e.owner) ys → after_all after first (view (x.clock + 1) (Whole s) ys) ≡ after (after_all after first (view (x.clock + 1) (Whole s) ys)) x.clock deed → Stands x value after first vs ys → Stands x value after first vs (ys ++ made_now x s deed ∷ [])
+pub stands_touched : {D E S : Type 0} (value : ℕ → D → S) (after : S → ℕ → E → S) (first : S) (x : Transactions) (s : ℕ) (vs : List (Version D)) (ys : List (Edit E)) (deed : E) → 1 ≤ s → 0 < length (levels_of x s) → HoldsWholeViews x → Each (λ (e : Edit E). IsFreeFor s e.owner) ys → after_all after first (view (x.clock + 1) (Whole s) ys) ≡ after (after_all after first (view (x.clock + 1) (Whole s) ys)) x.clock deed → Stands x value after first vs ys → Stands x value after first vs (ys ++ made_now x s deed ∷ [])
 stands_touched value after first x s vs ys deed one some readers free makes stands = stands_touched_in (IsLook x) value after first x s vs ys deed one some (λ v kept. new_seen x s v readers kept) free makes stands
 
 -- what a version puts may be read in another way that gives the same, as where other blocks of a pool change
@@ -315,7 +320,7 @@ view_past {D} x n viewer es late stack = view_same (view_at n viewer) (view_at (
 
 -- Want of memory: the versions of a call that failed are gone with the level in which it was made
 
-standing_append : {D : Type 0} (x : Transactions) (vs us : List (Version D)) → standing x (vs ++ us) ≡ standing x vs ++ standing x us
+pub standing_append : {D : Type 0} (x : Transactions) (vs us : List (Version D)) → standing x (vs ++ us) ≡ standing x vs ++ standing x us
 standing_append x [] us = refl
 standing_append {D} x (v ∷ vs) us = by_owner (owner_of x v.stamp) (standing_append x vs us)
   where

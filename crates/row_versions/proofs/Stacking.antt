@@ -1,5 +1,5 @@
 -- The stack of one place is kept.
-use Rattle.std.proofs.Common.{ℕ, ◌+◌, ◌-◌, ◌<◌, ◌≤◌, ◌≡◌, ◌≢◌, ◌⊎◌, inl, inr, Bool, true, false, List, [], ◌∷◌, ◌++◌, length, take, Option, Some, None, refl, ap, subst, ◌∙◌, arith}
+use Rattle.std.proofs.Common.{ℕ, ◌+◌, ◌-◌, ◌<◌, ◌≤◌, ◌≡◌, ◌≢◌, ◌⊎◌, inl, inr, Bool, true, false, List, [], ◌∷◌, ◌++◌, length, take, Option, Some, None, refl, ap, sym, subst, ◌∙◌, arith}
 use Rattle.std.specs.Prelude.{if◌then◌else◌, slice_set}
 use Rattle.std.proofs.lemmas.Bool.{false≢true, cases_eq, cases_lt}
 use Rattle.std.proofs.lemmas.Bool.Decides.{nat_tests}
@@ -68,23 +68,15 @@ stack_turned turn old new keeps es stack = record { made = each_turned turn old 
 pub levels_cases : (s : ℕ) (names : List (Option (List ℕ))) (old new : Transactions) → HasLevels s names old new → (t : ℕ) → 1 ≤ s → 1 ≤ t → ((t ≡ s) × (levels_of new t ≡ names)) ⊎ (levels_of new t ≡ levels_of old t)
 levels_cases s names old new has t low low' = by_equal (cases_eq t s)
   where
-    by_range : t ≡ s → (s - 1 < length old.levels) ⊎ (length old.levels ≤ s - 1) → ((t ≡ s) × (levels_of new t ≡ names)) ⊎ (levels_of new t ≡ levels_of old t)
-    by_range is (inl within) = inl (is, rw (has.levels, is) (get_or-set_same old.levels (s - 1) names [] within))
-    by_range is (inr past) = inr (rw (has.levels, is, get_or_past (slice_set old.levels (s - 1) names) (s - 1) [] (rw (length-set old.levels (s - 1) names) past), get_or_past old.levels (s - 1) [] past) refl)
-
     by_equal : (t ≡ s) ⊎ (t ≡ s → ⊥) → ((t ≡ s) × (levels_of new t ≡ names)) ⊎ (levels_of new t ≡ levels_of old t)
-    by_equal (inl is) = by_range is (cases_lt (s - 1) (length old.levels))
-    by_equal (inr apart) = inr (rw has.levels (get_or-set_other old.levels (s - 1) (t - 1) names [] (λ at. apart (omega (arith, at)))))
+    by_equal (inl is) = inl (is, subst (λ (n : ℕ). levels_of new n ≡ names) (sym is) has.own)
+    by_equal (inr apart) = inr (has.others t apart)
 
 pub levels_here : (s : ℕ) (names : List (Option (List ℕ))) (old new : Transactions) → HasLevels s names old new → 0 < length (levels_of old s) → levels_of new s ≡ names
-levels_here s names old new has some = by_range (cases_lt (s - 1) (length old.levels))
-  where
-    by_range : (s - 1 < length old.levels) ⊎ (length old.levels ≤ s - 1) → levels_of new s ≡ names
-    by_range (inl within) = rw has.levels (get_or-set_same old.levels (s - 1) names [] within)
-    by_range (inr past) = let none : levels_of old s ≡ [] = get_or_past old.levels (s - 1) [] past in absurd (let zero_long : length (levels_of old s) ≡ 0 = ap (λ (names : List (Option (List ℕ))). length names) none in omega arith)
+levels_here s names old new has some = has.own
 
 pub levels_apart : (s : ℕ) (names : List (Option (List ℕ))) (old new : Transactions) → HasLevels s names old new → (t : ℕ) → 1 ≤ s → 1 ≤ t → t ≢ s → levels_of new t ≡ levels_of old t
-levels_apart s names old new has t low low' apart = rw has.levels (get_or-set_other old.levels (s - 1) (t - 1) names [] (λ at. apart (omega (arith, at))))
+levels_apart s names old new has t low low' apart = has.others t apart
 
 -- the orders
 

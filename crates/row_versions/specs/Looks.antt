@@ -10,25 +10,6 @@ use Rattle.xact_core.specs.Stamp.{sees_made}
 use Rattle.xact_core.specs.Transactions.{Transactions, levels_of}
 use Rattle.row_versions.specs.Stack.{Each}
 
--- the ways in which a view is kept
-pub data KeptBy (x : Transactions) (v : Snapshot) : Type 0 where
-  ByNobody : v ≡ view_at (x.clock + 1) Nobody → KeptBy x v
-  ByWhole : (s : ℕ) → 1 ≤ s → 0 < length (levels_of x s) → v ≡ view_at (x.clock + 1) (Whole s) → KeptBy x v
-  ByBelow : (s l : ℕ) → 1 ≤ s → 1 ≤ l → l ≤ length (levels_of x s) → v ≡ view_at (x.clock + 1) (Below s l) → KeptBy x v
-  ByHold : Contains x.held v → KeptBy x v
-
--- a view that may be held for a reader: nobody's, or a whole one
-abbrev pub IsWhole : Viewer → Type 0
-IsWhole Nobody = Unit {0}
-IsWhole (Whole s) = Unit {0}
-IsWhole (Below s l) = ⊥
-
-abbrev pub IsReader : Snapshot → Type 0
-IsReader v = IsWhole v.viewer
-
-pub record HoldsReaders (x : Transactions) : Type 0 where
-  pub readers : (v : Snapshot) → Contains x.held v → IsReader v
-
 -- whether a view has an edit, alike through an end
 abbrev pub SeesAsBefore : {D : Type 0} → (Owner → Option Owner) → (now before : Snapshot) → Edit D → Type 0
 SeesAsBefore turn v u e = sees_made v e.clock (turn e.owner) ≡ sees u.clock u.viewer e.clock e.owner

@@ -18,7 +18,7 @@ pub returns-clause-ticked : goal.returns-clause-ticked
 returns-clause-ticked g c = goes_ticks g.K.Ord.cmp g.met.K.Ord.total g.met.K.Key.exact
 
 pub returns-clause-opened : goal.returns-clause-opened
-returns-clause-opened g c = goes_opened g.K.Ord.cmp g.met.K.Ord.total g.met.K.Key.exact
+returns-clause-opened g c s name old new store by = goes_opened g.K.Ord.cmp g.met.K.Ord.total g.met.K.Key.exact s name old new store by.levels.low by
 
 pub returns-clause-held : goal.returns-clause-held
 returns-clause-held g c = goes_holds g.K.Ord.cmp g.met.K.Ord.total g.met.K.Key.exact
