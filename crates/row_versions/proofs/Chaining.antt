@@ -186,7 +186,7 @@ module _ {D : Type 0} where
 
   -- the steps of the loops, in the words of their goals
 
-  at_same : (es : List (Entry D)) (k : ℕ) (d d' : Entry D) → k < length es → slice_index_or es k d ≡ slice_index_or es k d'
+  pub at_same : (es : List (Entry D)) (k : ℕ) (d d' : Entry D) → k < length es → slice_index_or es k d ≡ slice_index_or es k d'
   at_same [] k d d' within = absurd (omega arith)
   at_same (e ∷ es) zero d d' within = refl
   at_same (e ∷ es) (suc k) d d' within = at_same es k d d' (omega arith)

@@ -1,6 +1,6 @@
 -- A vacuum of the unsettled keys, one after the other, is one of all keys.
-use Rattle.std.proofs.Common.{ℕ, ◌+◌, ◌<◌, ◌≤◌, ◌≡◌, ◌≢◌, ◌⊎◌, inl, inr, Bool, true, false, cond, List, [], ◌∷◌, length, take, Option, Some, None, refl, ap, sym, subst, ◌∙◌, arith}
-use Rattle.std.specs.Prelude.{not, ◌&&◌, ◌||◌, if◌then◌else◌, slice_index_or, filter}
+use Rattle.std.proofs.Common.{ℕ, ◌+◌, ◌<◌, ◌≤◌, ◌≡◌, ◌≢◌, ◌⊎◌, inl, inr, Bool, true, false, cond, List, [], ◌∷◌, ◌++◌, map, Option, Some, None, refl, ap, sym, subst, ◌∙◌, arith}
+use Rattle.std.specs.Prelude.{not, ◌&&◌, ◌||◌, if◌then◌else◌, filter}
 use Rattle.std.specs.Cmp.{IsTotalOrder}
 use Rattle.std.specs.List.{list_any}
 use Rattle.std.specs.Ordering.{is_eq, eq_by_cmp}
@@ -9,8 +9,7 @@ use Rattle.std.specs.declared.cmp.Ordering.{Ordering}
 use Rattle.std.specs.declared.cmp.Ordering.TheVariants.{Less, Equal, Greater}
 use Rattle.std.proofs.lemmas.Bool.{false≢true}
 use Rattle.std.proofs.lemmas.Cmp.{tied_itself}
-use Rattle.std.proofs.lemmas.List.{take_all}
-use Rattle.std.proofs.lemmas.List.Folds.{list_any_more}
+use Rattle.std.proofs.lemmas.List.{map-append}
 use Rattle.std.proofs.lemmas.Map.Lookups.{CmpEqualImpliesEq}
 use Rattle.std.proofs.lemmas.Map.Views.{tells_apart}
 use Rattle.lo_model.specs.declared.owner.Owner.{Owner}
@@ -32,6 +31,26 @@ first_or false false both nay = absurd (false≢true both)
 none_of : (a b : Bool) → (a || b) ≡ false → (a ≡ false) × (b ≡ false)
 none_of true b nay = absurd (false≢true (sym nay))
 none_of false b nay = (refl, nay)
+
+any_end : {X : Type 0} (test : X → Bool) (xs : List X) (x : X) → list_any test (xs ++ x ∷ []) ≡ (list_any test xs || test x)
+any_end test [] x = by_test (test x)
+  where
+    by_test : (b : Bool) → (b || false) ≡ b
+    by_test true = refl
+    by_test false = refl
+any_end test (y ∷ ys) x = by_test (test y) (any_end test ys x)
+  where
+    by_test : (b : Bool) → list_any test (ys ++ x ∷ []) ≡ (list_any test ys || test x) → (b || list_any test (ys ++ x ∷ [])) ≡ ((b || list_any test ys) || test x)
+    by_test true rest = refl
+    by_test false rest = rest
+
+-- the keys of which a loop has told, read from what it took
+pub keys_told : {B K : Type 0} (read : B → K) (done : List B) (key : B) (all rest left : List K) → map read done ++ left ≡ all → left ≡ read key ∷ rest → map read (done ++ key ∷ []) ++ rest ≡ all
+keys_told {B} {K} read done key all rest left so_far is = one_more done ∙ (ap (λ (ks : List K). map read done ++ ks) (sym is) ∙ so_far)
+  where
+    one_more : (bs : List B) → map read (bs ++ key ∷ []) ++ rest ≡ map read bs ++ (read key ∷ rest)
+    one_more [] = refl
+    one_more (b ∷ bs) = ap (λ (ks : List K). read b ∷ ks) (one_more bs)
 
 pub settled_is : {D : Type 0} (x : Transactions) (vs : List (Version (Option D))) → is_settled x vs ≡ true → IsSettled is_erasure x vs
 settled_is x [] is = tt
@@ -91,26 +110,23 @@ module _ {K : Type 0} (cmp : K → K → Ordering) (total : IsTotalOrder cmp) (e
     pub keys_none : (old : K → List (Version (Option D))) → VacuumsKeys cmp x [] old old
     keys_none old = record { here = λ key is. absurd (false≢true is); others = λ key apart. refl }
 
-    pub keys_next : (keys : List K) (i : ℕ) (n d : K) (old now new : K → List (Version (Option D))) → i < length keys → n ≡ slice_index_or keys i d → VacuumsKeys cmp x (take i keys) old now → new n ≡ vacuumed is_erasure x (now n) → ((k : K) → k ≢ n → new k ≡ now k) → VacuumsKeys cmp x (take (i + 1) keys) old new
-    keys_next keys i n d old now new within is so_far here others = record { here = λ key listed. by_equal key listed (same_or_not key n); others = λ key apart. unlisted key apart (same_or_not key n) }
+    pub keys_next : (keys : List K) (n : K) (old now new : K → List (Version (Option D))) → VacuumsKeys cmp x keys old now → new n ≡ vacuumed is_erasure x (now n) → ((k : K) → k ≢ n → new k ≡ now k) → VacuumsKeys cmp x (keys ++ n ∷ []) old new
+    keys_next keys n old now new so_far here others = record { here = λ key listed. by_equal key listed (same_or_not key n); others = λ key apart. unlisted key apart (same_or_not key n) }
       where
-        more : (key : K) → is_among cmp (take (i + 1) keys) key ≡ (is_among cmp (take i keys) key || is_at (cmp key) n)
-        more key = subst (λ (m : K). is_among cmp (take (i + 1) keys) key ≡ (is_among cmp (take i keys) key || is_at (cmp key) m)) (sym is) (list_any_more (is_at (cmp key)) keys i d within)
-
-        was_or_again : (b : Bool) → is_among cmp (take i keys) n ≡ b → vacuumed is_erasure x (now n) ≡ vacuumed is_erasure x (old n)
+        was_or_again : (b : Bool) → is_among cmp keys n ≡ b → vacuumed is_erasure x (now n) ≡ vacuumed is_erasure x (old n)
         was_or_again true listed = ap (vacuumed is_erasure x) (so_far.here n listed) ∙ vacuumed_again is_erasure x (old n)
         was_or_again false apart = ap (vacuumed is_erasure x) (so_far.others n apart)
 
-        by_equal : (key : K) → is_among cmp (take (i + 1) keys) key ≡ true → (key ≡ n) ⊎ (key ≡ n → ⊥) → new key ≡ vacuumed is_erasure x (old key)
-        by_equal key listed (inl same) = subst (λ (k : K). new k ≡ vacuumed is_erasure x (old k)) (sym same) (here ∙ was_or_again (is_among cmp (take i keys) n) refl)
-        by_equal key listed (inr apart) = others key apart ∙ so_far.here key (first_or (is_among cmp (take i keys) key) (is_at (cmp key) n) (sym (more key) ∙ listed) (key_apart key n apart))
+        by_equal : (key : K) → is_among cmp (keys ++ n ∷ []) key ≡ true → (key ≡ n) ⊎ (key ≡ n → ⊥) → new key ≡ vacuumed is_erasure x (old key)
+        by_equal key listed (inl same) = subst (λ (k : K). new k ≡ vacuumed is_erasure x (old k)) (sym same) (here ∙ was_or_again (is_among cmp keys n) refl)
+        by_equal key listed (inr apart) = others key apart ∙ so_far.here key (first_or (is_among cmp keys key) (is_at (cmp key) n) (sym (any_end (is_at (cmp key)) keys n) ∙ listed) (key_apart key n apart))
 
-        unlisted : (key : K) → is_among cmp (take (i + 1) keys) key ≡ false → (key ≡ n) ⊎ (key ≡ n → ⊥) → new key ≡ old key
-        unlisted key nay (inl same) = absurd (false≢true (sym (none_of (is_among cmp (take i keys) key) (is_at (cmp key) n) (sym (more key) ∙ nay)).1 ∙ (ap (is_at (cmp key)) (sym same) ∙ key_itself key)))
-        unlisted key nay (inr apart) = others key apart ∙ so_far.others key (none_of (is_among cmp (take i keys) key) (is_at (cmp key) n) (sym (more key) ∙ nay)).0
+        unlisted : (key : K) → is_among cmp (keys ++ n ∷ []) key ≡ false → (key ≡ n) ⊎ (key ≡ n → ⊥) → new key ≡ old key
+        unlisted key nay (inl same) = absurd (false≢true (sym (none_of (is_among cmp keys key) (is_at (cmp key) n) (sym (any_end (is_at (cmp key)) keys n) ∙ nay)).1 ∙ (ap (is_at (cmp key)) (sym same) ∙ key_itself key)))
+        unlisted key nay (inr apart) = others key apart ∙ so_far.others key (none_of (is_among cmp keys key) (is_at (cmp key) n) (sym (any_end (is_at (cmp key)) keys n) ∙ nay)).0
 
-    pub keys_all : (keys : List K) (i : ℕ) (old now : K → List (Version (Option D))) → length keys ≤ i → VacuumsKeys cmp x (take i keys) old now → VacuumsKeys cmp x keys old now
-    keys_all keys i old now past so_far = subst (λ (ks : List K). VacuumsKeys cmp x ks old now) (take_all i keys past) so_far
+    pub key_told : {B : Type 0} (read : B → K) (done : List B) (key : B) (old now new : K → List (Version (Option D))) → VacuumsKeys cmp x (map read done) old now → new (read key) ≡ vacuumed is_erasure x (now (read key)) → ((k : K) → k ≢ read key → new k ≡ now k) → VacuumsKeys cmp x (map read (done ++ key ∷ [])) old new
+    key_told read done key old now new so_far here others = subst (λ (ks : List K). VacuumsKeys cmp x ks old new) (sym (map-append read done (key ∷ []))) (keys_next (map read done) (read key) old now new so_far here others)
 
     -- where each key is settled or listed, all keys are vacuumed
     pub all_keys : (keys : List K) (old new : K → List (Version (Option D))) → ((key : K) → IsStack x (standing x (old key))) → ((key : K) → IsSettled is_erasure x (old key) ⊎ (is_among cmp keys key ≡ true)) → VacuumsKeys cmp x keys old new → (key : K) → new key ≡ vacuumed is_erasure x (old key)

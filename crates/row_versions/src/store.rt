@@ -12,7 +12,10 @@ ghost use Rattle.row_versions.specs.Looks.{IsLook};
 ghost use Rattle.row_versions.specs.Search.{HasNoneFrom, IsLeastFrom, HasNoneIn, IsGreatestIn, IsFreeIn, IsLowestIn};
 ghost use Rattle.row_versions.specs.Stands.{lowest_other, vacuumed};
 ghost use Rattle.row_versions.specs.Store.{versions_at, versions_in, edits_at, AddsVersion, SameVersions, KeepsListed, GoesWith, VacuumsKeys, is_unsettled};
-ghost use Rattle.row_versions.specs.Vacuum.{any_open};
+ghost use Rattle.row_versions.specs.Vacuum.{any_open, FoundUnlessErasure, OneOwner};
+ghost use Rattle.row_versions.specs.Count.{ListsHeld, clocks_left};
+ghost use Rattle.row_versions.specs.Stack.{Each, Pairwise};
+ghost use Rattle.xact_core.specs.Kept.{kept_views};
 
 use crate::base::Core;
 use crate::chain::{Entry, busy, find, is_settled, reclaim};
@@ -194,9 +197,14 @@ impl<K: Key, D: Drop> Store<K, D> {
         requires goes { GoesWith K.cmp core.now.xacts self.old }
         ensures versions { (key : K) → versions_at K.cmp self.new key ≡ vacuumed is_erasure core.now.xacts (versions_at K.cmp self.old key) }
         ensures goes { GoesWith K.cmp core.now.xacts self.new }
-        // Each kept view finds what it found, and whoever was busy is: each session, and below each of its levels.
+
+        // Each kept view finds what it found, and whoever has a key open had it: each session, and below each of its levels.
         ensures finds { (key : K) (v : Snapshot) → IsLook core.now.xacts v → finds core.now.xacts v (versions_at K.cmp self.new key) ≡ finds core.now.xacts v (versions_at K.cmp self.old key) }
         ensures open { (key : K) (viewer : Viewer) → any_open viewer (edits_at K.cmp core.now.xacts self.new key) ≡ any_open viewer (edits_at K.cmp core.now.xacts self.old key) }
+
+        // The puts that are left of a key are what kept views find, each once, where one clock is one session's request.
+        ensures puts { (key : K) → Each (FoundUnlessErasure is_erasure (kept_views core.now.xacts) (edits_at K.cmp core.now.xacts self.old key)) (edits_at K.cmp core.now.xacts self.new key) }
+        ensures held { (key : K) → Pairwise OneOwner (edits_at K.cmp core.now.xacts self.old key) → ListsHeld is_erasure (kept_views core.now.xacts) (edits_at K.cmp core.now.xacts self.old key) (clocks_left is_erasure (edits_at K.cmp core.now.xacts self.new key)) }
     {
         reclaim_all(&mut self.chains, &self.unsettled, &core.xacts);
         settle(&mut self.unsettled, &self.chains, &core.xacts);
