@@ -31,7 +31,7 @@ use Rattle.row_versions.proofs.Storing.{same_or_not}
 use Rattle.row_versions.proofs.Vacuuming.{reclaimed_stack}
 
 -- where there is no lowest other session, no edit is another's
-lowest_first : (a b : Option ℕ) → lower_of a b ≡ None → (a ≡ None) × (b ≡ None)
+pub lowest_first : (a b : Option ℕ) → lower_of a b ≡ None → (a ≡ None) × (b ≡ None)
 lowest_first None b none = (refl, none)
 lowest_first (Some a) None none = absurd (none-some a (sym none))
 lowest_first (Some a) (Some b) none = absurd (none-some _ (sym none))
