@@ -19,6 +19,7 @@ use Rattle.std.proofs.lemmas.Option.{none-some, same_Some}
 use Rattle.lo_model.specs.Touch.{lower_of}
 use Rattle.row_versions.specs.Stack.{Each, Pairwise}
 use Rattle.row_versions.proofs.Going.{lowest_first}
+use Rattle.row_versions.proofs.Stacking.{each_both}
 use Rattle.row_versions.proofs.Storing.{key_itself}
 
 -- the key of the first entry that passes a test
@@ -51,6 +52,15 @@ IsBelow cmp e f = cmp e.0 f.0 ≡ Less
 pub last_key-end : {K X : Type 0} (test : X → Bool) (old : Option K) (es : List (K × X)) (e : K × X) → last_key test old (es ++ e ∷ []) ≡ (if test e.1 then Some e.0 else last_key test old es)
 last_key-end test old [] e = refl
 last_key-end test old (f ∷ fs) e = last_key-end test (if test f.1 then Some f.0 else old) fs e
+
+pub first_passes : {K X : Type 0} (test : X → Bool) (k : K) (v : X) (rest es : List (K × X)) → es ≡ (k, v) ∷ rest → test v ≡ true → first_key test es ≡ Some k
+first_passes test k v rest es is passed = ap (first_key test) is ∙ rw passed refl
+
+pub last_passes : {K X : Type 0} (test : X → Bool) (k : K) (v : X) (rest es : List (K × X)) → es ≡ rest ++ (k, v) ∷ [] → test v ≡ true → last_key test None es ≡ Some k
+last_passes test k v rest es is passed = ap (last_key test None) is ∙ (last_key-end test None rest (k, v) ∙ rw passed refl)
+
+pub last_fails : {K X : Type 0} (test : X → Bool) (k : K) (v : X) (rest es : List (K × X)) → es ≡ rest ++ (k, v) ∷ [] → test v ≡ false → last_key test None rest ≡ last_key test None es
+last_fails test k v rest es is failed = sym (ap (last_key test None) is ∙ (last_key-end test None rest (k, v) ∙ rw failed refl))
 
 lower_left : (a b : Option ℕ) (t u : ℕ) → ((n : ℕ) → lower_of a b ≡ Some n → t ≤ n) → a ≡ Some u → t ≤ u
 lower_left None b t u least is = absurd (none-some u is)
@@ -94,7 +104,7 @@ module _ {K X : Type 0} (cmp : K → K → Ordering) (total : IsTotalOrder cmp) 
 
   -- the part between two keys
 
-  filter_each : (P : K × X → Type 0) (p : K × X → Bool) (es : List (K × X)) → Each P es → Each P (filter p es)
+  pub filter_each : (P : K × X → Type 0) (p : K × X → Bool) (es : List (K × X)) → Each P es → Each P (filter p es)
   filter_each P p [] h = tt
   filter_each P p (e ∷ es) h = by_test (p e) (filter_each P p es h.1)
     where
@@ -134,13 +144,18 @@ module _ {K X : Type 0} (cmp : K → K → Ordering) (total : IsTotalOrder cmp) 
       by_at false at left = by_test (p e.0) at left
 
   -- a key that a look-up finds is one of the entries'
-  lookup_each : (test : X → Bool) (P : K → Type 0) (q : K) (es : List (K × X)) → Each (λ (e : K × X). P e.0) es → passes test (lookup (is_at (cmp q)) es) ≡ true → P q
+  pub lookup_each : (test : X → Bool) (P : K → Type 0) (q : K) (es : List (K × X)) → Each (λ (e : K × X). P e.0) es → passes test (lookup (is_at (cmp q)) es) ≡ true → P q
   lookup_each test P q [] h found = absurd (false≢true found)
   lookup_each test P q (e ∷ es) h found = by_at (is_at (cmp q) e.0) refl found (lookup_each test P q es h.1)
     where
       by_at : (b : Bool) → is_at (cmp q) e.0 ≡ b → passes test (cond b (Some e.1) (lookup (is_at (cmp q)) es)) ≡ true → (passes test (lookup (is_at (cmp q)) es) ≡ true → P q) → P q
       by_at true at here later = subst P (sym (tells_apart exact q e.0 at)) h.0
       by_at false at here later = later here
+
+  -- each entry is the one that a look-up of its key finds
+  pub each_found : (es : List (K × X)) → Pairwise (IsBelow cmp) es → Each (λ (e : K × X). lookup (is_at (cmp e.0)) es ≡ Some e.1) es
+  each_found [] order = tt
+  each_found (e ∷ es) order = (rw (key_itself cmp total exact e.0) refl, each_both (IsBelow cmp e) (λ (f : K × X). lookup (is_at (cmp f.0)) es ≡ Some f.1) (λ (f : K × X). lookup (is_at (cmp f.0)) (e ∷ es) ≡ Some f.1) (λ f below found. rw (above_apart cmp total e.0 f.0 below) found) es order.0 (each_found es order.1))
 
   -- what passes first
 
@@ -255,7 +270,7 @@ module _ {K X : Type 0} (cmp : K → K → Ordering) (total : IsTotalOrder cmp) 
     pub before : (u : ℕ) → old ≡ Some u → t ≤ u
     pub least : (q : K) (u : ℕ) → number_in number (lookup (is_at (cmp q)) es) ≡ Some u → t ≤ u
 
-  number_each : (number : X → Option ℕ) (P : K → Type 0) (q : K) (t : ℕ) (es : List (K × X)) → Each (λ (e : K × X). P e.0) es → number_in number (lookup (is_at (cmp q)) es) ≡ Some t → P q
+  pub number_each : (number : X → Option ℕ) (P : K → Type 0) (q : K) (t : ℕ) (es : List (K × X)) → Each (λ (e : K × X). P e.0) es → number_in number (lookup (is_at (cmp q)) es) ≡ Some t → P q
   number_each number P q t [] h found = absurd (none-some t found)
   number_each number P q t (e ∷ es) h found = by_at (is_at (cmp q) e.0) refl found (number_each number P q t es h.1)
     where
