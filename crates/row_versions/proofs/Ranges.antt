@@ -62,6 +62,9 @@ last_passes test k v rest es is passed = ap (last_key test None) is ∙ (last_ke
 pub last_fails : {K X : Type 0} (test : X → Bool) (k : K) (v : X) (rest es : List (K × X)) → es ≡ rest ++ (k, v) ∷ [] → test v ≡ false → last_key test None rest ≡ last_key test None es
 last_fails test k v rest es is failed = sym (ap (last_key test None) is ∙ (last_key-end test None rest (k, v) ∙ rw failed refl))
 
+pub lowest_more : {K X : Type 0} (number : X → Option ℕ) (old new n : Option ℕ) (k : K) (v : X) (rest es : List (K × X)) → es ≡ (k, v) ∷ rest → new ≡ lower_of old n → n ≡ number v → lowest_of number new rest ≡ lowest_of number old es
+lowest_more number old new n k v rest es is lower here = ap (λ (o : Option ℕ). lowest_of number o rest) (lower ∙ ap (lower_of old) here) ∙ sym (ap (lowest_of number old) is)
+
 lower_left : (a b : Option ℕ) (t u : ℕ) → ((n : ℕ) → lower_of a b ≡ Some n → t ≤ n) → a ≡ Some u → t ≤ u
 lower_left None b t u least is = absurd (none-some u is)
 lower_left (Some a) None t u least is = least u is

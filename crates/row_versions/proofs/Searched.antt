@@ -1,6 +1,6 @@
 -- What the calls that search over keys find, in words of the store.
 use Rattle.std.proofs.Common.{Bor, ℕ, ◌≤◌, ◌≡◌, ◌⊎◌, inl, inr, Bool, true, false, List, [], ◌∷◌, ◌++◌, Option, Some, None, refl, ap, sym, subst, ◌∙◌}
-use Rattle.std.specs.Prelude.{not, ◌&&◌, if◌then◌else◌, filter, is_some}
+use Rattle.std.specs.Prelude.{not, ◌&&◌, if◌then◌else◌, filter, is_some, MatchOption}
 use Rattle.std.specs.Cmp.{IsTotalOrder}
 use Rattle.std.specs.List.Sorted.{IsStrictlySortedBy}
 use Rattle.std.specs.Map.{keys_of, lookup}
@@ -179,6 +179,10 @@ module _ {K D : Type 0} (cmp : K → K → Ordering) (total : IsTotalOrder cmp) 
             here = open_in_part (Included from) (Included to) s h.key within ∙ h.here;
             lowest = λ q u between found. lowest.least q u (sym (open_in_part (Included from) (Included to) s q (span_contains from to q between)) ∙ found);
           }
+
+  pub searched_in : (s : ℕ) (from to : K) (o : Option ℕ) → o ≡ lowest_of (busy_of x s) None (entries_between cmp (Included from) (Included to) store.chains.entries) → MatchOption o (IsFreeIn cmp x s store from to) (IsLowestIn cmp x s store from to)
+  searched_in s from to None is = free_in s from to (sym is)
+  searched_in s from to (Some t) is = lowest_in s from to t (sym is)
 
   -- the versions of each key between are a stack
   pub stacks_in : (lo hi : Bound K) → ((key : K) → IsStack x (standing x (versions_at cmp store key))) → Each (λ (e : K × Chain D). IsStack x (standing x (versions_of e.1.items))) (entries_between cmp lo hi store.chains.entries)
