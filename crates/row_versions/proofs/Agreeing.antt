@@ -99,7 +99,6 @@ agrees_turned {D} {E} W W' after after' first turn xs ys covers link agrees = re
 
 -- for whom a place is open
 
-
 pub open_turned : {D : Type 0} (turn : Owner → Option Owner) (before : Viewer → Viewer) → OpensAs turn before → (viewer : Viewer) (es : List (Edit D)) → any_open viewer (turned turn es) ≡ any_open (before viewer) es
 open_turned turn before by_viewer viewer [] = refl
 open_turned {D} turn before by_viewer viewer (e ∷ es) = by_turn (turn e.owner) (by_viewer.opens viewer e.owner) (open_turned turn before by_viewer viewer es)

@@ -1,9 +1,8 @@
 -- What the bench of the tests keeps through the calls of the transactions.
-use Rattle.std.proofs.Common.{◌≡◌, List, [], ◌∷◌, subst, sym}
-use Rattle.std.specs.Prelude.{Contains, Result, Ok, Err, OnOk}
-use Rattle.lo_model.specs.declared.viewer.Viewer.{Viewer}
+use Rattle.std.proofs.Common.{◌≡◌, List, [], subst}
+use Rattle.std.specs.Prelude.{Contains, Result, Ok, OnOk}
 use Rattle.xact_core.specs.declared.snapshot.Snapshot.{Snapshot}
-use Rattle.xact_core.specs.Kept.{LooksWhole, HoldsWholeViews}
+use Rattle.xact_core.specs.Kept.{HoldsWholeViews}
 use Rattle.xact_core.specs.Transactions.{Transactions}
 use Rattle.row_versions.proofs.Keeping.{nil_none}
 

@@ -11,7 +11,7 @@ use Rattle.xact_core.specs.declared.snapshot.Snapshot.{Snapshot}
 use Rattle.xact_core.specs.Transactions.{Transactions, levels_of}
 use Rattle.row_versions.specs.Count.{count_of, puts_in, Different, IsHeldClock, ListsHeld, clocks_left}
 use Rattle.row_versions.specs.Stack.{Each, Pairwise, IsStack, owned, left_of, turned}
-use Rattle.row_versions.specs.Vacuum.{has_seen, last_seen, put_of, is_last, lasts, is_committed, trimmed, reclaimed, IsFound, FoundUnlessErasure, OneOwner, OtherClock}
+use Rattle.row_versions.specs.Vacuum.{has_seen, last_seen, put_of, is_last, lasts, is_committed, trimmed, reclaimed, FoundUnlessErasure, OneOwner, OtherClock}
 use Rattle.row_versions.specs.Stands.{Version, Fits, standing, IsSettled, vacuumed, made_now}
 use Rattle.row_versions.proofs.Stacking.{pairwise_end}
 use Rattle.row_versions.proofs.Keeping.{cons_cases, cons_rest, nil_none}

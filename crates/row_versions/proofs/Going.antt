@@ -21,7 +21,7 @@ use Rattle.std.specs.declared.cmp.Ordering.{Ordering}
 use Rattle.std.proofs.lemmas.Map.Lookups.{CmpEqualImpliesEq}
 use Rattle.row_versions.specs.Calls.{Ticks}
 use Rattle.xact_core.specs.Kept.{HoldsOthers}
-use Rattle.row_versions.specs.Store.{edits_at, versions_at, ListsUnsettled, AddsVersion, SameVersions, KeepsListed, GoesWith}
+use Rattle.row_versions.specs.Store.{versions_at, ListsUnsettled, AddsVersion, SameVersions, KeepsListed, GoesWith}
 use Rattle.row_versions.specs.Stands.{Version, standing, Fits, IsSettled, lowest_other, vacuumed}
 use Rattle.row_versions.specs.declared.store.Store.{Store}
 use Rattle.row_versions.proofs.Agreeing.{standing_turned, fits_turned}

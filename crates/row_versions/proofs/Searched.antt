@@ -1,18 +1,18 @@
 -- What the calls that search over keys find, in words of the store.
-use Rattle.std.proofs.Common.{Bor, ℕ, ◌≤◌, ◌≡◌, ◌⊎◌, inl, inr, Bool, true, false, List, [], ◌∷◌, ◌++◌, Option, Some, None, refl, ap, sym, subst, ◌∙◌}
-use Rattle.std.specs.Prelude.{not, ◌&&◌, if◌then◌else◌, filter, is_some, MatchOption}
+use Rattle.std.proofs.Common.{Bor, ℕ, ◌≡◌, ◌⊎◌, inl, inr, Bool, true, false, List, [], Option, Some, None, refl, ap, sym, subst, ◌∙◌}
+use Rattle.std.specs.Prelude.{not, ◌&&◌, is_some, MatchOption}
 use Rattle.std.specs.Cmp.{IsTotalOrder}
 use Rattle.std.specs.List.Sorted.{IsStrictlySortedBy}
 use Rattle.std.specs.Map.{keys_of, lookup}
 use Rattle.std.specs.Option.{option_map_or, option_copied}
-use Rattle.std.specs.Ordering.{is_eq, is_gt, is_lt, is_le, ordering_reverse}
-use Rattle.std.specs.BTreeMap.{BTreeMap, get, is_at}
+use Rattle.std.specs.Ordering.{is_gt, is_lt, is_le, ordering_reverse}
+use Rattle.std.specs.BTreeMap.{get, is_at}
 use Rattle.std.specs.BTreeMap.Range.{IsLeBy, entries_between, range_contains}
 use Rattle.std.specs.declared.alloc.Global.{Global}
 use Rattle.std.specs.declared.cmp.Ordering.{Ordering}
 use Rattle.std.specs.declared.cmp.Ordering.TheVariants.{Less, Equal, Greater}
 use Rattle.std.specs.declared.ops.Bound.{Bound}
-use Rattle.std.specs.declared.ops.Bound.TheVariants.{Included, Excluded, Unbounded}
+use Rattle.std.specs.declared.ops.Bound.TheVariants.{Included, Unbounded}
 use Rattle.std.specs.declared.vec.Vec.{Vec}
 use Rattle.std.proofs.lemmas.Bool.{false≢true}
 use Rattle.std.proofs.lemmas.Cmp.{upto}
@@ -25,7 +25,7 @@ use Rattle.row_versions.specs.declared.store.Store.{Store}
 use Rattle.row_versions.specs.Chain.{versions_of}
 use Rattle.row_versions.specs.Found.{finds}
 use Rattle.row_versions.specs.Search.{finds_at, busy_at, IsBetween, HasNoneFrom, IsLeastFrom, HasNoneIn, IsGreatestIn, IsFreeIn, IsLowestIn}
-use Rattle.row_versions.specs.Stack.{Each, Pairwise, IsStack}
+use Rattle.row_versions.specs.Stack.{Each, IsStack}
 use Rattle.row_versions.specs.Stands.{standing, lowest_other}
 use Rattle.row_versions.specs.Store.{versions_at}
 use Rattle.row_versions.proofs.Stacking.{each_more}

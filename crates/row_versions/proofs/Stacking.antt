@@ -1,9 +1,9 @@
 -- The stack of one place is kept.
 use Rattle.std.proofs.Common.{ℕ, ◌+◌, ◌-◌, ◌<◌, ◌≤◌, ◌≡◌, ◌≢◌, ◌⊎◌, inl, inr, Bool, true, false, List, [], ◌∷◌, ◌++◌, length, take, Option, Some, None, refl, ap, sym, subst, ◌∙◌, arith}
-use Rattle.std.specs.Prelude.{if◌then◌else◌, slice_set}
-use Rattle.std.proofs.lemmas.Bool.{false≢true, cases_eq, cases_lt}
+use Rattle.std.specs.Prelude.{if◌then◌else◌}
+use Rattle.std.proofs.lemmas.Bool.{false≢true, cases_eq}
 use Rattle.std.proofs.lemmas.Bool.Decides.{nat_tests}
-use Rattle.std.proofs.lemmas.List.{get_or_past, get_or-set_same, get_or-set_other, length-take, length-set, length-append}
+use Rattle.std.proofs.lemmas.List.{length-take, length-append}
 use Rattle.lo_model.specs.declared.owner.Owner.{Owner}
 use Rattle.lo_model.specs.declared.owner.Owner.TheVariants.{Running, Committed}
 use Rattle.lo_model.specs.Edit.{Edit}

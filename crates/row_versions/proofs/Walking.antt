@@ -1,9 +1,8 @@
 -- The walk over the versions of a key from the newest back, to what a view finds and to who has the key open.
-use Rattle.std.proofs.Common.{ℕ, suc, ◌+◌, ◌-◌, ◌<◌, ◌≤◌, ◌≡◌, ◌⊎◌, inl, inr, min, Bool, true, false, List, [], ◌∷◌, ◌++◌, length, take, map, Option, Some, None, refl, ap, sym, subst, ◌∙◌, arith, append-nil}
+use Rattle.std.proofs.Common.{ℕ, ◌+◌, ◌-◌, ◌<◌, ◌≤◌, ◌≡◌, min, Bool, true, false, List, [], ◌∷◌, ◌++◌, length, take, Option, Some, None, refl, ap, sym, subst, ◌∙◌, arith, append-nil}
 use Rattle.std.specs.Prelude.{◌==◌, if◌then◌else◌, slice_index_or}
-use Rattle.std.proofs.lemmas.Bool.{false≢true, cases_eq}
-use Rattle.std.proofs.lemmas.Bool.Decides.{nat_tests}
-use Rattle.std.proofs.lemmas.List.{take_more, take_all, map-append}
+use Rattle.std.proofs.lemmas.Bool.{false≢true}
+use Rattle.std.proofs.lemmas.List.{take_more, map-append}
 use Rattle.lo_model.specs.declared.owner.Owner.{Owner}
 use Rattle.lo_model.specs.declared.owner.Owner.TheVariants.{Running, Committed}
 use Rattle.lo_model.specs.Edit.{Edit}
@@ -16,7 +15,7 @@ use Rattle.row_versions.specs.declared.chain.Entry.{Entry}
 use Rattle.row_versions.specs.Chain.{version_of, versions_of}
 use Rattle.row_versions.specs.Found.{given, content_of, finds}
 use Rattle.row_versions.specs.Stack.{Each, Pairwise, Follows, IsOver, IsStack}
-use Rattle.row_versions.specs.Stands.{Version, edit_of, standing_of, standing, replaces, lowest_other}
+use Rattle.row_versions.specs.Stands.{Version, edit_of, standing, replaces, lowest_other}
 use Rattle.row_versions.proofs.Chaining.{at_same}
 use Rattle.row_versions.proofs.Laws.{after_seen, after_unseen, standing_append, standing_end}
 

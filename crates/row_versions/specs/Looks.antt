@@ -1,13 +1,11 @@
-use Rattle.std.specs.Prelude.{◌≡◌, ◌≤◌, ◌<◌, ◌+◌, ℕ, List, length, Option, Contains}
+use Rattle.std.specs.Prelude.{◌≡◌, List, Option, Contains}
 use Rattle.lo_model.specs.declared.owner.Owner.{Owner}
-use Rattle.lo_model.specs.declared.viewer.Viewer.{Viewer}
-use Rattle.lo_model.specs.declared.viewer.Viewer.TheVariants.{Nobody, Whole, Below}
 use Rattle.lo_model.specs.Edit.{Edit}
 use Rattle.lo_model.specs.View.{sees}
 use Rattle.xact_core.specs.declared.snapshot.Snapshot.{Snapshot}
-use Rattle.xact_core.specs.Kept.{view_at, kept_views}
+use Rattle.xact_core.specs.Kept.{kept_views}
 use Rattle.xact_core.specs.Stamp.{sees_made}
-use Rattle.xact_core.specs.Transactions.{Transactions, levels_of}
+use Rattle.xact_core.specs.Transactions.{Transactions}
 use Rattle.row_versions.specs.Stack.{Each}
 
 -- whether a view has an edit, alike through an end

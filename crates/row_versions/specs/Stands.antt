@@ -1,3 +1,4 @@
+-- Versions of one key, what they stand for among the edits of a place, and what a vacuum leaves of them.
 use Rattle.std.specs.Prelude.{◌≡◌, ℕ, Bool, true, false, not, ◌&&◌, List, [], ◌∷◌, ◌++◌, length, Option, Some, None, ◌⊎◌, if◌then◌else◌}
 use Rattle.std.specs.List.{list_any}
 use Rattle.lo_model.specs.declared.owner.Owner.{Owner}

@@ -64,10 +64,8 @@ fn other(owner: &Owner, s: SessionNo) -> Option<SessionNo>
 
 /// Takes away the versions of one key that no kept view needs, without memory.
 pub fn reclaim<D: Drop>(entries: &mut Vec<Entry<D>>, core: &Xacts)
-    ensures {
-        versions_of entries.new.items
-        ≡ vacuumed is_erasure core.now (versions_of entries.old.items)
-    }
+    ensures { versions_of entries.new.items
+        ≡ vacuumed is_erasure core.now (versions_of entries.old.items) }
 {
     clear(entries);
     mark_all(entries, core);

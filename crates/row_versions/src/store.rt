@@ -7,10 +7,10 @@ ghost use Rattle.lo_model.specs.declared.viewer.Viewer.{Viewer};
 ghost use Rattle.xact_core.specs.declared.snapshot.Snapshot.{Snapshot};
 ghost use Rattle.xact_core.specs.Transactions.{Transactions, levels_of};
 ghost use Rattle.row_versions.specs.Chain.{version_of};
-ghost use Rattle.row_versions.specs.Found.{finds, is_erasure, is_settled};
+ghost use Rattle.row_versions.specs.Found.{is_erasure, is_settled};
 ghost use Rattle.row_versions.specs.Looks.{IsLook};
-ghost use Rattle.row_versions.specs.Search.{HasNoneFrom, IsLeastFrom, HasNoneIn, IsGreatestIn, IsFreeIn, IsLowestIn};
-ghost use Rattle.row_versions.specs.Stands.{lowest_other, vacuumed};
+ghost use Rattle.row_versions.specs.Search.{finds_at, busy_at, HasNoneFrom, IsLeastFrom, HasNoneIn, IsGreatestIn, IsFreeIn, IsLowestIn};
+ghost use Rattle.row_versions.specs.Stands.{vacuumed};
 ghost use Rattle.row_versions.specs.Store.{versions_at, versions_in, edits_at, AddsVersion, SameVersions, KeepsListed, GoesWith, VacuumsKeys, is_unsettled};
 ghost use Rattle.row_versions.specs.Vacuum.{any_open, FoundUnlessErasure, OneOwner};
 ghost use Rattle.row_versions.specs.Count.{ListsHeld, clocks_left};
@@ -19,7 +19,6 @@ ghost use Rattle.xact_core.specs.Kept.{kept_views};
 
 use crate::base::Core;
 use crate::chain::{Entry, busy, find, is_settled, reclaim};
-
 use crate::key::Key;
 use lo_base::{Bytes, NoMemory, SessionNo};
 use std::alloc::Global;
@@ -55,29 +54,18 @@ impl<K: Key, D: Drop> Store<K, D> {
     /// It costs a search and the versions from the newest back to the first that the view sees.
     pub fn find(&self, core: &Core, key: &K, snap: &Snapshot) -> Option<&D>
         requires kept { IsLook core.now.xacts snap.now }
-        ensures {
-            option_copied result
-            ≡ finds core.now.xacts snap.now (versions_at K.cmp self.now key.now)
-        }
+        ensures { option_copied result ≡ finds_at K.cmp core.now.xacts snap.now self.now key.now }
     {
         let entries = self.chains.get(key)?;
         find(entries.as_slice(), &core.xacts, snap)
     }
 
     /// Puts a content at a key, in the session's top level.
-    pub fn put(
-        &mut self,
-        core: &mut Core,
-        s: SessionNo,
-        key: K,
-        content: D,
-    ) -> Result<(), NoMemory>
+    pub fn put(&mut self, core: &mut Core, s: SessionNo, key: K, content: D) -> Result<(), NoMemory>
         requires open { 0 < length (levels_of core.old.xacts s) }
-        requires free { lowest_other s (edits_at K.cmp core.old.xacts self.old key) ≡ None }
+        requires free { busy_at K.cmp core.old.xacts s self.old key ≡ None }
         requires goes { GoesWith K.cmp core.old.xacts self.old }
-        ensures ok {
-            OnOk result (AddsVersion K.cmp core.old.xacts s key (Some content) self.old self.new)
-        }
+        ensures ok { OnOk result (AddsVersion K.cmp core.old.xacts s key (Some content) self.old self.new) }
         ensures err { OnErr result (SameVersions K.cmp self.old self.new) }
         ensures goes { GoesWith K.cmp core.old.xacts self.new }
         ensures core { core.new ≡ core.old }
@@ -88,7 +76,7 @@ impl<K: Key, D: Drop> Store<K, D> {
     /// Erases a key, in the session's top level. The erasure is a version too.
     pub fn erase(&mut self, core: &Core, s: SessionNo, key: K) -> Result<(), NoMemory>
         requires open { 0 < length (levels_of core.now.xacts s) }
-        requires free { lowest_other s (edits_at K.cmp core.now.xacts self.old key) ≡ None }
+        requires free { busy_at K.cmp core.now.xacts s self.old key ≡ None }
         requires goes { GoesWith K.cmp core.now.xacts self.old }
         ensures ok { OnOk result (AddsVersion K.cmp core.now.xacts s key None self.old self.new) }
         ensures err { OnErr result (SameVersions K.cmp self.old self.new) }
@@ -105,7 +93,7 @@ impl<K: Key, D: Drop> Store<K, D> {
         content: Option<D>,
     ) -> Result<(), NoMemory>
         requires open { 0 < length (levels_of core.now s) }
-        requires free { lowest_other s (edits_at K.cmp core.now self.old key) ≡ None }
+        requires free { busy_at K.cmp core.now s self.old key ≡ None }
         requires goes { GoesWith K.cmp core.now self.old }
         ensures ok { OnOk result (AddsVersion K.cmp core.now s key content self.old self.new) }
         ensures err { OnErr result (SameVersions K.cmp self.old self.new) }
@@ -146,7 +134,7 @@ impl<K: Key, D: Drop> Store<K, D> {
     /// and the versions from the newest back to the first that was not undone.
     pub fn busy(&self, core: &Core, key: &K, s: SessionNo) -> Option<SessionNo>
         requires goes { GoesWith K.cmp core.now.xacts self.now }
-        ensures { result ≡ lowest_other s (edits_at K.cmp core.now.xacts self.now key.now) }
+        ensures { result ≡ busy_at K.cmp core.now.xacts s self.now key.now }
     {
         let entries = self.chains.get(key)?;
         busy(entries.as_slice(), &core.xacts, s)
@@ -155,10 +143,8 @@ impl<K: Key, D: Drop> Store<K, D> {
     /// The lowest such session over all keys from one to another, both included.
     pub fn busy_in(&self, core: &Core, from: &K, to: &K, s: SessionNo) -> Option<SessionNo>
         requires goes { GoesWith K.cmp core.now.xacts self.now }
-        ensures {
-            MatchOption result (IsFreeIn K.cmp core.now.xacts s self.now from.now to.now)
-            (IsLowestIn K.cmp core.now.xacts s self.now from.now to.now)
-        }
+        ensures { MatchOption result (IsFreeIn K.cmp core.now.xacts s self.now from.now to.now)
+            (IsLowestIn K.cmp core.now.xacts s self.now from.now to.now) }
     {
         if *from > *to {
             return None;
@@ -173,10 +159,8 @@ impl<K: Key, D: Drop> Store<K, D> {
     /// The least key at or above another at which the view finds something.
     pub fn range(&self, core: &Core, from: &K, snap: &Snapshot) -> Option<K>
         requires kept { IsLook core.now.xacts snap.now }
-        ensures {
-            MatchOption result (HasNoneFrom K.cmp core.now.xacts snap.now self.now from.now)
-            (IsLeastFrom K.cmp core.now.xacts snap.now self.now from.now)
-        }
+        ensures { MatchOption result (HasNoneFrom K.cmp core.now.xacts snap.now self.now from.now)
+            (IsLeastFrom K.cmp core.now.xacts snap.now self.now from.now) }
     {
         for (key, entries) in self.chains.range(*from..) {
             if find(entries.as_slice(), &core.xacts, snap).is_some() {
@@ -189,10 +173,8 @@ impl<K: Key, D: Drop> Store<K, D> {
     /// The greatest key from one to another, both included, at which the view finds something.
     pub fn last_in(&self, core: &Core, from: &K, to: &K, snap: &Snapshot) -> Option<K>
         requires kept { IsLook core.now.xacts snap.now }
-        ensures {
-            MatchOption result (HasNoneIn K.cmp core.now.xacts snap.now self.now from.now to.now)
-            (IsGreatestIn K.cmp core.now.xacts snap.now self.now from.now to.now)
-        }
+        ensures { MatchOption result (HasNoneIn K.cmp core.now.xacts snap.now self.now from.now to.now)
+            (IsGreatestIn K.cmp core.now.xacts snap.now self.now from.now to.now) }
     {
         if *from > *to {
             return None;
@@ -209,36 +191,26 @@ impl<K: Key, D: Drop> Store<K, D> {
     /// of these not the committed erasures that come first. It looks at the unsettled keys alone, and takes no memory.
     pub fn vacuum(&mut self, core: &Core)
         requires goes { GoesWith K.cmp core.now.xacts self.old }
-        ensures versions {
-            (key : K) → versions_at K.cmp self.new key
-            ≡ vacuumed is_erasure core.now.xacts (versions_at K.cmp self.old key)
-        }
+        ensures versions { (key : K) → versions_at K.cmp self.new key
+            ≡ vacuumed is_erasure core.now.xacts (versions_at K.cmp self.old key) }
         ensures goes { GoesWith K.cmp core.now.xacts self.new }
 
         // Each kept view finds what it found, and whoever has a key open had it: each session, and below each of its levels.
-        ensures finds {
-            (key : K) (v : Snapshot) → IsLook core.now.xacts v
-            → finds core.now.xacts v (versions_at K.cmp self.new key)
-            ≡ finds core.now.xacts v (versions_at K.cmp self.old key)
-        }
-        ensures open {
-            (key : K) (viewer : Viewer)
+        ensures finds { (key : K) (v : Snapshot) → IsLook core.now.xacts v
+            → finds_at K.cmp core.now.xacts v self.new key
+            ≡ finds_at K.cmp core.now.xacts v self.old key }
+        ensures open { (key : K) (viewer : Viewer)
             → any_open viewer (edits_at K.cmp core.now.xacts self.new key)
-            ≡ any_open viewer (edits_at K.cmp core.now.xacts self.old key)
-        }
+            ≡ any_open viewer (edits_at K.cmp core.now.xacts self.old key) }
 
         // The puts that are left of a key are what kept views find, each once, where one clock is one session's request.
-        ensures puts {
-            (key : K)
+        ensures puts { (key : K)
             → Each (FoundUnlessErasure is_erasure (kept_views core.now.xacts) (edits_at K.cmp core.now.xacts self.old key))
-            (edits_at K.cmp core.now.xacts self.new key)
-        }
-        ensures held {
-            (key : K) → Pairwise OneOwner (edits_at K.cmp core.now.xacts self.old key)
+            (edits_at K.cmp core.now.xacts self.new key) }
+        ensures held { (key : K) → Pairwise OneOwner (edits_at K.cmp core.now.xacts self.old key)
             → ListsHeld is_erasure (kept_views core.now.xacts)
             (edits_at K.cmp core.now.xacts self.old key)
-            (clocks_left is_erasure (edits_at K.cmp core.now.xacts self.new key))
-        }
+            (clocks_left is_erasure (edits_at K.cmp core.now.xacts self.new key)) }
     {
         reclaim_all(&mut self.chains, &self.unsettled, &core.xacts);
         settle(&mut self.unsettled, &self.chains, &core.xacts);
@@ -263,15 +235,9 @@ fn add<K: Key, D: Drop>(
     key: K,
     entry: Entry<D>,
 ) -> Result<(), NoMemory>
-    ensures here {
-        OnOk result (versions_in K.cmp chains.new key ≡ versions_in K.cmp chains.old key ++ version_of entry ∷ [])
-    }
-    ensures others {
-        OnOk result ((k : K) → k ≢ key → versions_in K.cmp chains.new k ≡ versions_in K.cmp chains.old k)
-    }
-    ensures err {
-        OnErr result ((k : K) → versions_in K.cmp chains.new k ≡ versions_in K.cmp chains.old k)
-    }
+    ensures here { OnOk result (versions_in K.cmp chains.new key ≡ versions_in K.cmp chains.old key ++ version_of entry ∷ []) }
+    ensures others { OnOk result ((k : K) → k ≢ key → versions_in K.cmp chains.new k ≡ versions_in K.cmp chains.old k) }
+    ensures err { OnErr result ((k : K) → versions_in K.cmp chains.new k ≡ versions_in K.cmp chains.old k) }
 {
     match chains.get_mut(&key) {
         Some(entries) => {
@@ -291,10 +257,8 @@ fn reclaim_all<K: Key, D: Drop>(
     keys: &BTreeSet<K>,
     core: &Xacts,
 )
-    ensures {
-        VacuumsKeys K.cmp core.now keys.now.keys (versions_in K.cmp chains.old)
-        (versions_in K.cmp chains.new)
-    }
+    ensures { VacuumsKeys K.cmp core.now keys.now.keys (versions_in K.cmp chains.old)
+        (versions_in K.cmp chains.new) }
 {
     for key in keys.iter() {
         reclaim_key(chains, *key, core);
@@ -303,13 +267,9 @@ fn reclaim_all<K: Key, D: Drop>(
 
 /// Takes away what is not needed of one key, and the key where nothing is left.
 fn reclaim_key<K: Key, D: Drop>(chains: &mut BTreeMap<K, Vec<Entry<D>>>, key: K, core: &Xacts)
-    ensures here {
-        versions_in K.cmp chains.new key
-        ≡ vacuumed is_erasure core.now (versions_in K.cmp chains.old key)
-    }
-    ensures others {
-        (k : K) → k ≢ key → versions_in K.cmp chains.new k ≡ versions_in K.cmp chains.old k
-    }
+    ensures here { versions_in K.cmp chains.new key
+        ≡ vacuumed is_erasure core.now (versions_in K.cmp chains.old key) }
+    ensures others { (k : K) → k ≢ key → versions_in K.cmp chains.new k ≡ versions_in K.cmp chains.old k }
 {
     let Some(entries) = chains.get_mut(&key) else {
         return;

@@ -73,7 +73,9 @@ fn content(rt: &impl Abort, alloc: Global, byte: u8) -> Bytes {
 }
 
 fn byte_of(content: Option<&Bytes>) -> u8 {
-    content.and_then(|bytes| bytes.items().first().copied()).unwrap_or(0)
+    content
+        .and_then(|bytes| bytes.items().first().copied())
+        .unwrap_or(0)
 }
 
 fn key_at<K: Key>(rt: &impl Abort, keys: &[K], index: usize) -> K {
@@ -169,7 +171,10 @@ impl<K: Key> Bench<K> {
     {
         assert!(rt; self.core.xacts.levels(s) > 0);
         assert!(rt; self.core.xacts.views() < 1000);
-        self.core.xacts.push_level(s, Name::new(alloc)).expect(rt, "memory");
+        self.core
+            .xacts
+            .push_level(s, Name::new(alloc))
+            .expect(rt, "memory");
     }
 
     fn release(&mut self, s: SessionNo, level: u64)
@@ -235,7 +240,9 @@ impl<K: Key> Bench<K> {
     {
         assert!(rt; self.core.xacts.levels(s) > 0);
         assert!(rt; self.store.busy(&self.core, &key, s).is_none());
-        self.store.put(&mut self.core, s, key, content).expect(rt, "memory");
+        self.store
+            .put(&mut self.core, s, key, content)
+            .expect(rt, "memory");
     }
 
     fn erase(&mut self, rt: &impl Abort, s: SessionNo, key: K)
@@ -269,7 +276,10 @@ impl<K: Key> Bench<K> {
             }
             Act::FindsCommitted(key, byte) => {
                 let key = key_at(rt, keys, *key);
-                assert_eq!(rt; byte_of(self.store.find(&self.core, &key, &committed)), *byte);
+                assert_eq!(rt;
+                    byte_of(self.store.find(&self.core, &key, &committed)),
+                    *byte
+                );
             }
             Act::Busy(n, key, other) => {
                 let key = key_at(rt, keys, *key);
@@ -282,7 +292,9 @@ impl<K: Key> Bench<K> {
                 assert_eq!(rt; number_of(busy), *other);
             }
             Act::First(from, key) => {
-                let found = self.store.range(&self.core, &key_at(rt, keys, *from), &committed);
+                let found = self
+                    .store
+                    .range(&self.core, &key_at(rt, keys, *from), &committed);
                 assert!(rt; found == key.map(|key| key_at(rt, keys, key)));
             }
             Act::Last(from, to, key) => {
@@ -404,7 +416,12 @@ fn searches_of_numbers(rt: HostRuntime) {
 
 #[test]
 fn searches_of_pairs(rt: HostRuntime) {
-    run(&rt, rt.alloc(), &[at(1, u32::MAX), at(2, 0), at(2, 1)], &SEARCHES);
+    run(
+        &rt,
+        rt.alloc(),
+        &[at(1, u32::MAX), at(2, 0), at(2, 1)],
+        &SEARCHES,
+    );
 }
 
 /// Session 2 puts and commits after the hold, and what was put before it stays for the held view alone.
@@ -460,7 +477,11 @@ fn ten_thousand_puts_of_one_key(rt: HostRuntime) {
             bench.act(&rt, rt.alloc(), &[7u64], &Act::Hold);
         }
     }
-    let kept = bench.store.chains.get(&7u64).map_or(0, |entries| entries.len());
+    let kept = bench
+        .store
+        .chains
+        .get(&7u64)
+        .map_or(0, |entries| entries.len());
     assert_eq!(rt; kept, 2);
     bench.act(&rt, rt.alloc(), &[7u64], &Act::FindsHeld(0, 5));
 }

@@ -1,4 +1,3 @@
-use Rattle.std.proofs.Common.{subst, sym}
 use Rattle.row_versions.proofs.Going.{goes_released, goes_undone, goes_committed, goes_aborted, goes_ticks, goes_opened, goes_holds}
 use Rattle.row_versions.proofs.law.store_goes.Goals as goal
 

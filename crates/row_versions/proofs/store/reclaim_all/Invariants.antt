@@ -1,4 +1,4 @@
-use Rattle.std.proofs.Common.{◌≡◌, ◌++◌, List, map}
+use Rattle.std.proofs.Common.{◌≡◌, ◌++◌, map}
 use Rattle.row_versions.specs.Store.{versions_in, VacuumsKeys}
 use Rattle.row_versions.proofs.store.reclaim_all.Given as goal
 

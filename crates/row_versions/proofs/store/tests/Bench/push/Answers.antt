@@ -1,4 +1,3 @@
-use Rattle.std.proofs.Common.{None}
 use Rattle.row_versions.proofs.Benching.{whole_same, said_ok}
 use Rattle.row_versions.proofs.Going.{goes_opened}
 use Rattle.row_versions.proofs.store.tests.Bench.push.Goals as goal
