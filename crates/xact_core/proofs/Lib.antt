@@ -1,10 +1,11 @@
-pub mod EndLaws
+pub mod Contracts
 mod Examples
 pub mod KeptViews
+pub mod LevelPlaces
+pub mod ListPlaces
 pub mod Newest
-pub mod Opening
-pub mod Places
-pub mod Steps
+pub mod Owners
+pub mod SessionFields
+pub mod Sessions
 pub mod ViewLaws
-pub mod Views
-pub mod WellLaws
+pub mod ViewOrder

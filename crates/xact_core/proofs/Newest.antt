@@ -1,48 +1,31 @@
-use Rattle.std.proofs.Common.{ℕ, ◌+◌, ◌-◌, ◌<◌, ◌≤◌, ◌≡◌, ◌≢◌, List, length, Option, Some, None, sym, ◌∙◌, ⊎_elim, arith}
-use borrow.Author.Count.{below_more}
-use Rattle.std.specs.Prelude.{slice_get, MatchOption}
-use Rattle.std.proofs.lemmas.Bool.{cases_lt}
+-- The newest level with a name, looked for from the end.
+use Rattle.std.proofs.Common.{ℕ, ◌+◌, ◌-◌, ◌≤◌, ◌≡◌, ◌≢◌, ◌⊎◌, inl, inr, List, length, Option, Some, sym, subst, ◌∙◌, arith}
+use Rattle.std.specs.Prelude.{slice_get}
+use Rattle.std.proofs.lemmas.Bool.{cases_eq}
 use Rattle.std.proofs.lemmas.Option.{none-some, slice_get_past}
 use Rattle.xact_core.specs.Transactions.{HasNo, IsNewest}
 
--- no level below a place has the name
-pub record HasNoBelow (levels : List (Option (List ℕ))) (name : List ℕ) (end : ℕ) : Type 0 where
-  pub none : (i : ℕ) → i < end → slice_get levels i ≢ Some (Some name)
+-- no level from an index on has the name
+pub record HasNoFrom (levels : List (Option (List ℕ))) (name : List ℕ) (first : ℕ) : Type 0 where
+  pub none : (i : ℕ) → first ≤ i → slice_get levels i ≢ Some (Some name)
 
--- the level is the newest below a place
-pub record IsNewestBelow (levels : List (Option (List ℕ))) (name : List ℕ) (end level : ℕ) : Type 0 where
-  pub positive : 1 ≤ level
-  pub named : slice_get levels (level - 1) ≡ Some (Some name)
-  pub none_above : (i : ℕ) → level ≤ i → i < end → slice_get levels i ≢ Some (Some name)
-
-abbrev pub NewestBelow : List (Option (List ℕ)) → List ℕ → ℕ → Option ℕ → Type 0
-NewestBelow levels name end newest = MatchOption newest (HasNoBelow levels name end) (IsNewestBelow levels name end)
-
--- one more level, which has the name
-pub newest_here : (levels : List (Option (List ℕ))) (name : List ℕ) (i : ℕ) → slice_get levels i ≡ Some (Some name) → NewestBelow levels name (i + 1) (Some (i + 1))
-newest_here levels name i is = record { positive = omega arith; named = rw unary_sub is; none_above = λ j above before _. absurd (omega arith) }
-  where
-    unary_sub : i + 1 - 1 ≡ i
-    unary_sub = omega arith
+pub none_past : (levels : List (Option (List ℕ))) (name : List ℕ) (end : ℕ) → length levels ≤ end → HasNoFrom levels name end
+none_past levels name end all = record { none = λ i from is. none-some (Some name) (sym (slice_get_past levels i (omega arith)) ∙ is) }
 
 -- one more level, which has another name or none
-pub newest_before : (levels : List (Option (List ℕ))) (name : List ℕ) (i : ℕ) → slice_get levels i ≢ Some (Some name) → (newest : Option ℕ) → NewestBelow levels name i newest → NewestBelow levels name (i + 1) newest
-newest_before levels name i other None so_far = record { none = λ j before. below_more (λ (k : ℕ). slice_get levels k ≢ Some (Some name)) i so_far.none other j before }
-newest_before levels name i other (Some level) so_far =
-    record {
-      positive = so_far.positive;
-      named = so_far.named;
-      none_above = λ j above before. below_more (λ (k : ℕ). level ≤ k → slice_get levels k ≢ Some (Some name)) i (λ k lower from. so_far.none_above k from lower) (λ _. other) j before above;
-    }
+pub none_before : (levels : List (Option (List ℕ))) (name : List ℕ) (i : ℕ) → slice_get levels i ≢ Some (Some name) → HasNoFrom levels name (i + 1) → HasNoFrom levels name i
+none_before levels name i other later = record { none = λ j from is. by_place j from is (cases_eq i j) }
+  where
+    by_place : (j : ℕ) → i ≤ j → slice_get levels j ≡ Some (Some name) → (i ≡ j) ⊎ (i ≡ j → ⊥) → ⊥
+    by_place j from is (inl here) = other (subst (λ (n : ℕ). slice_get levels n ≡ Some (Some name)) (sym here) is)
+    by_place j from is (inr apart) = later.none j (let above : i ≢ j = apart in omega (arith, above)) is
 
-past : (levels : List (Option (List ℕ))) (name : List ℕ) (end i : ℕ) → length levels ≤ end → end ≤ i → slice_get levels i ≢ Some (Some name)
-past levels name end i all from is = none-some (Some name) (sym (slice_get_past levels i (omega arith)) ∙ is)
+-- one more level, which has the name
+pub newest_here : (levels : List (Option (List ℕ))) (name : List ℕ) (i : ℕ) → slice_get levels i ≡ Some (Some name) → HasNoFrom levels name (i + 1) → IsNewest levels name (i + 1)
+newest_here levels name i is later = record { positive = omega arith; named = rw back is; none_above = λ j above. later.none j above }
+  where
+    back : i + 1 - 1 ≡ i
+    back = omega arith
 
-pub newest_all : (levels : List (Option (List ℕ))) (name : List ℕ) (end : ℕ) → length levels ≤ end → (newest : Option ℕ) → NewestBelow levels name end newest → MatchOption newest (HasNo levels name) (IsNewest levels name)
-newest_all levels name end all None so_far = record { none = λ i. ⊎_elim (λ lower. so_far.none i lower) (λ from. past levels name end i all from) (cases_lt i end) }
-newest_all levels name end all (Some level) so_far =
-    record {
-      positive = so_far.positive;
-      named = so_far.named;
-      none_above = λ i above. ⊎_elim (λ lower. so_far.none_above i above lower) (λ from. past levels name end i all from) (cases_lt i end);
-    }
+pub none_at_all : (levels : List (Option (List ℕ))) (name : List ℕ) → HasNoFrom levels name 0 → HasNo levels name
+none_at_all levels name later = record { none = λ i. later.none i (omega arith) }

@@ -1,3 +1,4 @@
+-- What views have of edits through the ends of levels and transactions.
 use Rattle.std.proofs.Common.{ℕ, ◌+◌, ◌<◌, ◌≤◌, ◌≡◌, Bool, true, false, cond, List, [], ◌∷◌, ◌++◌, Option, Some, None, refl, ap, sym, subst, ◌∙◌, arith}
 use Rattle.std.specs.Prelude.{option_and_then, nat_lt, ◌&&◌, if◌then◌else◌, filter, map, not}
 use Rattle.std.proofs.lemmas.Bool.{false≢true}

@@ -1,23 +1,26 @@
-use Rattle.std.specs.Prelude.{ℕ, Bool, false, List, [], ◌∷◌, Option, Some, None, option_map, slice_get, slice_set, if◌then◌else◌}
+-- What the end of levels makes of fates, one by one and at some places.
+use Rattle.std.specs.Prelude.{ℕ, Bool, false, List, [], ◌∷◌, Option, Some, None, option_and_then, slice_get, slice_set}
 use Rattle.lo_model.specs.declared.owner.Owner.{Owner}
-use Rattle.lo_model.specs.declared.owner.Owner.TheVariants.{Running}
-use Rattle.lo_model.specs.Levels.{is_from_level, released_owner, committed_owner}
+use Rattle.lo_model.specs.Levels.{is_from_level}
 use Rattle.xact_core.specs.declared.fate.Fate.{Fate}
 use Rattle.xact_core.specs.declared.fate.End.{End}
-use Rattle.xact_core.specs.declared.fate.End.TheVariants.{Released, Undone, Committed, Aborted}
+use Rattle.xact_core.specs.declared.fate.End.TheVariants.{Released, Undone, Committed}
+use Rattle.xact_core.specs.Ends.{release, undo, commit_at}
 
 -- whether an owner, if there is one, is a session's open transaction, at a level or above it
 abbrev pub is_some_from : (session level : ℕ) → Option Owner → Bool
 is_some_from s k None = false
 is_some_from s k (Some owner) = is_from_level s k owner
 
--- what an end makes of the fate of a level. An undoing leaves its level empty, so the fate of each level that it ends is
--- again one of that level, and what was made before is undone
-abbrev pub fate_after : End → Fate → Fate
-fate_after (Released s k) fate = record { owner = option_map (released_owner s k) fate.owner; since = fate.since }
-fate_after (Undone s k n) fate = if is_some_from s k fate.owner then record { owner = Some (Running s k); since = n } else fate
-fate_after (Committed s c) fate = record { owner = option_map (committed_owner s c) fate.owner; since = fate.since }
-fate_after (Aborted s) fate = if is_some_from s 1 fate.owner then record { owner = None; since = fate.since } else fate
+-- what an end makes of an owner
+abbrev pub owner_after : End → Owner → Option Owner
+owner_after (Released s k) owner = release s k owner
+owner_after (Undone s k) owner = undo s k owner
+owner_after (Committed s c) owner = commit_at s c owner
+
+-- what is made of a fate by what is made of its owner
+abbrev pub fate_after : (Owner → Option Owner) → Fate → Fate
+fate_after turn fate = record { owner = option_and_then turn fate.owner; since = fate.since }
 
 abbrev pub turned_one : (Fate → Fate) → ℕ → Option Fate → List Fate → List Fate
 turned_one f i None fates = fates
@@ -27,3 +30,7 @@ turned_one f i (Some fate) fates = slice_set fates i (f fate)
 abbrev pub turned_at : (Fate → Fate) → List ℕ → List Fate → List Fate
 turned_at f [] fates = fates
 turned_at f (i ∷ is) fates = turned_at f is (turned_one f i (slice_get fates i) fates)
+
+-- the same, by what is made of their owners
+abbrev pub turned_by : (Owner → Option Owner) → List ℕ → List Fate → List Fate
+turned_by turn places fates = turned_at (fate_after turn) places fates

@@ -1,3 +1,4 @@
+-- What the ends of levels and transactions do to views, edit by edit.
 use Rattle.std.specs.Prelude.{ℕ, ◌≡◌, ◌≤◌, Bool, true, false, nat_lt, ◌==◌, ◌&&◌, nat_le, min, Option, if◌then◌else◌}
 use Rattle.lo_model.specs.declared.owner.Owner.{Owner}
 use Rattle.lo_model.specs.declared.viewer.Viewer.{Viewer}

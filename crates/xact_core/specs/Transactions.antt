@@ -1,5 +1,5 @@
 -- The transactions as contracts see them, the levels of a session, and names of levels.
-use Rattle.std.specs.Prelude.{ℕ, zero, suc, ◌-◌, ◌≤◌, ◌≡◌, ◌≢◌, List, [], Option, Some, replicate, slice_get, slice_set, slice_index_or}
+use Rattle.std.specs.Prelude.{ℕ, zero, suc, ◌-◌, ◌≤◌, ◌≡◌, ◌≢◌, List, [], Option, Some, replicate, slice_get, slice_set, slice_index_or, MatchOption}
 use Rattle.xact_core.specs.declared.fate.Fate.{Fate}
 use Rattle.xact_core.specs.declared.snapshot.Snapshot.{Snapshot}
 
@@ -39,3 +39,7 @@ pub record IsNewest (levels : List (Option (List ℕ))) (name : List ℕ) (level
   pub positive : 1 ≤ level
   pub named : slice_get levels (level - 1) ≡ Some (Some name)
   pub none_above : (i : ℕ) → level ≤ i → slice_get levels i ≢ Some (Some name)
+
+-- the newest level with a name, where there is one
+abbrev pub FindsNewest : List (Option (List ℕ)) → (name : List ℕ) → Option ℕ → Type 0
+FindsNewest levels name found = MatchOption found (HasNo levels name) (IsNewest levels name)

@@ -1,5 +1,6 @@
+// Whose the edits of a level are, and how the end of levels changes it. Only `Xacts` uses it.
 ghost use Rattle.std.specs.Prelude.{◌≡◌, ◌<◌, All, length};
-ghost use Rattle.xact_core.specs.Fate.{fate_after, turned_at};
+ghost use Rattle.xact_core.specs.Fate.{owner_after, fate_after, turned_by};
 
 use lo_base::{Clock, SessionNo};
 use lo_model::Owner;
@@ -17,41 +18,44 @@ pub struct Fate {
 pub enum End {
     /// The level from which levels are merged into the one below.
     Released(SessionNo, u64),
-    /// The level from which edits are undone, and the number of that undoing.
-    Undone(SessionNo, u64, u64),
+    /// The level from which edits are undone.
+    Undone(SessionNo, u64),
     Committed(SessionNo, Clock),
-    Aborted(SessionNo),
+}
+
+impl End {
+    /// Whose the edits of an owner are after the end.
+    fn owner_after(&self, owner: &Owner) -> Option<Owner>
+        ensures { result ≡ owner_after self.now owner.now }
+    {
+        match owner {
+            Owner::Running(session, level) => match self {
+                End::Released(s, from) if session.number() == s.number() && *from <= *level => {
+                    Some(Owner::Running(*s, from.saturating_sub(1)))
+                }
+                End::Undone(s, from) if session.number() == s.number() && *from <= *level => None,
+                End::Committed(s, clock) if session.number() == s.number() => {
+                    Some(Owner::Committed(*clock))
+                }
+                _ => Some(*owner),
+            },
+            Owner::Committed(_) => Some(*owner),
+        }
+    }
 }
 
 impl Fate {
     /// The fate after an end.
     fn after(&self, end: &End) -> Fate
-        ensures { result ≡ fate_after end.now self.now }
+        ensures { result ≡ fate_after (owner_after end.now) self.now }
     {
-        let since = self.since;
-        match &self.owner {
-            Some(Owner::Running(session, level)) => match end {
-                End::Released(s, from) if session.number() == s.number() && *from <= *level =>
-                    Fate {
-                        owner: Some(Owner::Running(*s, from.saturating_sub(1))),
-                        since,
-                    },
-                End::Undone(s, from, number) if session.number() == s.number() && *from <= *level =>
-                    Fate {
-                        owner: Some(Owner::Running(*s, *from)),
-                        since: *number,
-                    },
-                End::Committed(s, clock) if session.number() == s.number() => Fate {
-                    owner: Some(Owner::Committed(*clock)),
-                    since,
-                },
-                End::Aborted(s) if session.number() == s.number() && 1 <= *level => Fate {
-                    owner: None,
-                    since,
-                },
-                _ => *self,
-            },
-            _ => *self,
+        let owner = match &self.owner {
+            Some(owner) => end.owner_after(owner),
+            None => None,
+        };
+        Fate {
+            owner,
+            since: self.since,
         }
     }
 }
@@ -59,7 +63,7 @@ impl Fate {
 /// Turns the fates at these places, one after the other.
 pub fn turn(fates: &mut Vec<Fate>, places: &[usize], end: &End)
     requires { All (λ i. i < length fates.old.items) places.now }
-    ensures { fates.new.items ≡ turned_at (fate_after end.now) places.now fates.old.items }
+    ensures { fates.new.items ≡ turned_by (owner_after end.now) places.now fates.old.items }
 {
     for place in places {
         let turned = fates[*place].after(end);

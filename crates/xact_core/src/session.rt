@@ -1,42 +1,53 @@
-ghost use Rattle.std.specs.Prelude.{◌≡◌, ◌+◌, ◌-◌, ◌^◌, ◌<◌, ◌↔◌, IsTrue, [], ◌∷◌, ◌++◌, length, take, slice_index, OnOk, OnErr, MatchOption};
-ghost use Rattle.xact_core.specs.Transactions.{IsNewest, HasNo};
+// The open levels of one session, and which fates belong to each of them. Only `Xacts` uses it: nothing here is public.
+ghost use Rattle.std.specs.Prelude.{◌≡◌, ◌+◌, ◌-◌, ◌^◌, ◌<◌, ◌≤◌, ◌↔◌, IsTrue, length, slice_index, OnOk, OnErr};
 ghost use Rattle.xact_core.specs.Kept.{views_of};
+ghost use Rattle.xact_core.specs.Opened.{nothing, start, from_level, first_of, with_level, with_released, with_undone};
+ghost use Rattle.xact_core.specs.Transactions.{FindsNewest};
 
 use lo_base::{Name, NoMemory};
 use std::alloc::Global;
 use std::marker::Model;
 
-/// A session's open transaction: the names of its levels, and the places of the fates that belong to them. The last place
-/// is that of the top level. Both lists are empty outside a transaction.
+/// A level of a session's transaction: its name, and the index among the session's places at which its own begin.
+#[derive(Drop)]
+struct Level {
+    name: Option<Name>,
+    start: usize,
+}
+
+/// A session's open transaction: its levels, and the places of the fates that belong to them, those of level 1 first. The
+/// last place is that of the top level. Both lists are empty outside a transaction.
 #[derive(Drop)]
 pub struct Session {
-    names: Vec<Option<Name>>,
+    levels: Vec<Level>,
     places: Vec<usize>,
 }
 
 impl Model for Session {
-    ghost use Rattle.xact_core.specs.Opened.{Opened};
+    ghost use Rattle.xact_core.specs.Opened.{Opened, opened_of};
 
     ghost Value = { Opened };
 
-    ghost view = { λ s. record { names = s.names.items; places = s.places.items } };
+    ghost view = { λ s. opened_of s.levels.items s.places.items };
 }
 
 impl Session {
+    /// No transaction.
     pub fn new(alloc: Global) -> Session
-        ensures { result ≡ record { names = []; places = [] } }
+        ensures { result ≡ nothing }
     {
         Session {
-            names: Vec::new(alloc),
+            levels: Vec::new(alloc),
             places: Vec::new(alloc),
         }
     }
 
+    /// How many levels there are.
     pub fn levels(&self) -> usize
         ensures count { result ≡ length self.now.names }
         ensures small { result < 2 ^ 63 }
     {
-        self.names.len()
+        self.levels.len()
     }
 
     /// How many views of the session are kept.
@@ -49,10 +60,31 @@ impl Session {
         }
     }
 
+    /// The places of all levels.
     pub fn places(&self) -> &[usize]
         ensures { result.now ≡ self.now.places }
     {
         self.places.as_slice()
+    }
+
+    /// The places of a level, from 1, and of all above it.
+    pub fn places_from(&self, level: u64) -> &[usize]
+        requires low { 1 ≤ level }
+        requires high { level ≤ length self.now.starts }
+        requires start { start self.now level ≤ length self.now.places }
+        ensures { result.now ≡ from_level level self.now }
+    {
+        &self.places[self.levels[level as usize - 1].start..]
+    }
+
+    /// The first place of a level.
+    pub fn first(&self, level: u64) -> usize
+        requires low { 1 ≤ level }
+        requires high { level ≤ length self.now.starts }
+        requires start { start self.now level < length self.now.places }
+        ensures { result ≡ first_of level self.now }
+    {
+        self.places[self.levels[level as usize - 1].start]
     }
 
     /// The place of the top level's fate.
@@ -65,41 +97,54 @@ impl Session {
 
     /// Adds a level whose fate is at a place.
     pub fn push(&mut self, name: Option<Name>, place: usize) -> Result<(), NoMemory>
-        ensures ok { OnOk result (self.new ≡ record { names = self.old.names ++ name ∷ []; places = self.old.places ++ place ∷ [] }) }
+        ensures ok { OnOk result (self.new ≡ with_level name place self.old) }
         ensures err { OnErr result (self.new ≡ self.old) }
     {
         self.places.reserve(1)?;
-        self.names.push(name)?;
+        let start = self.places.len();
+        self.levels.push(Level { name, start })?;
         self.places.push_reserved(place);
         Ok(())
     }
 
-    /// Leaves the first levels, at most `count`.
-    pub fn truncate(&mut self, count: usize)
-        ensures { self.new ≡ record self.old { names = take count self.old.names } }
+    /// Gives the places of a level and of all above it to the level below it.
+    pub fn release(&mut self, level: u64)
+        requires { 1 ≤ level }
+        ensures { self.new ≡ with_released level self.old }
     {
-        self.names.truncate(count);
+        self.levels.truncate(level as usize - 1);
+    }
+
+    /// Leaves of a level and of all above it the first place, which is the level's.
+    pub fn undo(&mut self, level: u64)
+        requires low { 1 ≤ level }
+        requires high { level ≤ length self.old.starts }
+        requires start { start self.old level < length self.old.places }
+        ensures { self.new ≡ with_undone level self.old }
+    {
+        let start = self.levels[level as usize - 1].start;
+        self.places.truncate(start + 1);
+        self.levels.truncate(level as usize);
     }
 
     /// Ends the transaction.
     pub fn clear(&mut self)
-        ensures { self.new ≡ record { names = []; places = [] } }
+        ensures { self.new ≡ nothing }
     {
-        self.names.clear();
+        self.levels.clear();
         self.places.clear();
     }
 
     /// The newest level with the name, counted from 1.
     pub fn newest(&self, name: &Name) -> Option<u64>
-        ensures { MatchOption result (HasNo self.now.names name.now) (IsNewest self.now.names name.now) }
+        ensures { FindsNewest self.now.names name.now result }
     {
-        let mut newest = None;
-        for (index, level) in self.names.iter().enumerate() {
-            if is_named(level, name) {
-                newest = Some(index as u64 + 1);
+        for index in (0..self.levels.len()).rev() {
+            if is_named(&self.levels[index].name, name) {
+                return Some(index as u64 + 1);
             }
         }
-        newest
+        None
     }
 }
 

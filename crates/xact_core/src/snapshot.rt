@@ -1,3 +1,4 @@
+// Views, and the views that are held for readers.
 use lo_base::Clock;
 use lo_model::{Owner, Viewer};
 use std::marker::Model;
@@ -6,7 +7,9 @@ use std::marker::Model;
 /// open ones of the viewer's. (Manual, Transaction Isolation, Read Committed.)
 #[derive(Clone, Copy, Debug, PartialEq, Eq)]
 pub struct Snapshot {
+    /// One above that of the last edits and commits that are in the view.
     pub clock: Clock,
+    /// Whose open edits are in it.
     pub viewer: Viewer,
 }
 

@@ -1,7 +1,10 @@
-ghost use Rattle.std.specs.Prelude.{◌≡◌, ℕ, true, false, ◌<◌, ◌≤◌, ◌+◌, ◌-◌, ◌^◌, ◌∷◌, ◌++◌, [], Some, None, length, map, sum_by, take, All, slice_set, OnOk, OnErr, IfOk, MatchOption, Contains, IsPermutation, slice_get};
-ghost use Rattle.xact_core.specs.Inside.{names_of, views_in};
+// The transactions of all sessions: the calls that the crates above use. What a session's levels and fates are made of
+// stands in `session` and `fate`, and no contract of these calls names it.
+ghost use Rattle.std.specs.Prelude.{◌≡◌, ℕ, true, false, ◌<◌, ◌≤◌, ◌+◌, ◌-◌, ◌^◌, ◌∷◌, ◌++◌, [], Some, None, length, map, sum_by, take, All, slice_set, OnOk, OnErr, IfOk, Contains, IsPermutation, slice_get};
+ghost use Rattle.xact_core.specs.Fate.{owner_after};
+ghost use Rattle.xact_core.specs.Inside.{names_of, views_in, AreSessions};
 ghost use Rattle.xact_core.specs.Kept.{view_at, viewer_of, sessions_views, TakesOut};
-ghost use Rattle.xact_core.specs.Opened.{opened_at, with_first, with_none, IsOpened, IsEnded};
+ghost use Rattle.xact_core.specs.Opened.{opened_at, IsOpened, IsReleased, IsOver, IsUndone};
 
 use crate::fate::{End, Fate, turn};
 use crate::session::Session;
@@ -15,7 +18,8 @@ use std::marker::Model;
 /// The transactions of all sessions.
 ///
 /// `fates` has one entry for each level that was ever begun, which is never given back: stamps name it by its place. The
-/// ends of levels and transactions turn only the entries that the session has open.
+/// end of a level turns the entries of that level and of those above it, and an undoing leaves the session one of them. The
+/// end of a transaction turns those that the session has open.
 #[derive(Drop)]
 pub struct Xacts {
     clock: Clock,
@@ -39,7 +43,7 @@ impl Model for Xacts {
 
 impl Xacts {
     ghost use Rattle.lo_model.specs.declared.owner.Owner.TheVariants.{Running};
-    ghost use Rattle.xact_core.specs.Transactions.{beginning, levels_of, HasNo, IsNewest};
+    ghost use Rattle.xact_core.specs.Transactions.{beginning, levels_of, FindsNewest};
     ghost use Rattle.xact_core.specs.Stamp.{made_at, owner_of, IsIssued, HasOwners, RunsWithin, sees_stamp, SeesSame};
     ghost use Rattle.xact_core.specs.Ends.{Turns, same, release, undo, commit_at, Opens, Ends};
     ghost use Rattle.xact_core.specs.Kept.{current, current_committed, kept_views, HoldsOthers, LooksWhole, HoldsWholeViews};
@@ -74,6 +78,7 @@ impl Xacts {
         self.clock += 1;
     }
 
+    /// The present clock: the number of `tick`s so far.
     pub fn now(&self) -> Clock
         ensures { result ≡ self.now.clock }
     {
@@ -122,7 +127,7 @@ impl Xacts {
 
     /// The session's newest level with the name, counted from 1.
     pub fn newest(&self, s: SessionNo, name: &Name) -> Option<u64>
-        ensures { MatchOption result (HasNo (levels_of self.now s) name.now) (IsNewest (levels_of self.now s) name.now) }
+        ensures { FindsNewest (levels_of self.now s) name.now result }
     {
         self.sessions[s.place()].newest(name)
     }
@@ -138,14 +143,7 @@ impl Xacts {
         ensures views { SeesAs (before_release s level) self.old self.new }
         ensures others { SparesOthers s self.old self.new }
     {
-        let end = End::Released(s, level);
-        end_levels(
-            &mut self.sessions,
-            &mut self.fates,
-            s,
-            &end,
-            level as usize - 1,
-        );
+        release_from(&mut self.sessions, &mut self.fates, s, level);
     }
 
     /// Undoes a level and all above it, and leaves the level empty. The level counts from 1.
@@ -161,8 +159,7 @@ impl Xacts {
         ensures others { SparesOthers s self.old self.new }
     {
         self.undos += 1;
-        let end = End::Undone(s, level, self.undos);
-        end_levels(&mut self.sessions, &mut self.fates, s, &end, level as usize);
+        undo_from(&mut self.sessions, &mut self.fates, s, level, self.undos);
     }
 
     /// Commits the session's transaction at the present clock.
@@ -188,7 +185,7 @@ impl Xacts {
         ensures views { SeesAs (before_undo s 1) self.old self.new }
         ensures others { SparesOthers s self.old self.new }
     {
-        let end = End::Aborted(s);
+        let end = End::Undone(s, 1);
         end_transaction(&mut self.sessions, &mut self.fates, s, &end);
     }
 
@@ -347,28 +344,44 @@ fn open_level(
     Ok(())
 }
 
-/// Ends a session's levels but the first ones, of which `left` stay.
-fn end_levels(
+/// Merges a session's level and all above it into the level below it.
+fn release_from(sessions: &mut Vec<Session>, fates: &mut Vec<Fate>, s: SessionNo, level: u64)
+    requires well { AreSessions sessions.old.items fates.old.items }
+    requires low { 2 ≤ level }
+    requires high { level ≤ length (opened_at sessions.old.items (s - 1)).names }
+    ensures { IsReleased s level sessions.old.items sessions.new.items fates.old.items fates.new.items }
+{
+    let session = &mut sessions[s.place()];
+    turn(fates, session.places_from(level), &End::Released(s, level));
+    session.release(level);
+}
+
+/// Undoes a session's level and all above it, and leaves the level empty. `undos` counts the undoings so far.
+fn undo_from(
     sessions: &mut Vec<Session>,
     fates: &mut Vec<Fate>,
     s: SessionNo,
-    end: &End,
-    left: usize,
+    level: u64,
+    undos: u64,
 )
-    requires sixteen { length sessions.old.items ≡ 16 }
-    requires places { All (λ i. i < length fates.old.items) (opened_at sessions.old.items (s - 1)).places }
-    ensures { IsEnded end.now s (with_first left) sessions.old.items sessions.new.items fates.old.items fates.new.items }
+    requires well { AreSessions sessions.old.items fates.old.items }
+    requires low { 1 ≤ level }
+    requires high { level ≤ length (opened_at sessions.old.items (s - 1)).names }
+    ensures { IsUndone s level undos sessions.old.items sessions.new.items fates.old.items fates.new.items }
 {
     let session = &mut sessions[s.place()];
-    turn(fates, session.places(), end);
-    session.truncate(left);
+    turn(fates, session.places_from(level), &End::Undone(s, level));
+    fates[session.first(level)] = Fate {
+        owner: Some(Owner::Running(s, level)),
+        since: undos,
+    };
+    session.undo(level);
 }
 
 /// Ends a session's transaction.
 fn end_transaction(sessions: &mut Vec<Session>, fates: &mut Vec<Fate>, s: SessionNo, end: &End)
-    requires sixteen { length sessions.old.items ≡ 16 }
-    requires places { All (λ i. i < length fates.old.items) (opened_at sessions.old.items (s - 1)).places }
-    ensures { IsEnded end.now s with_none sessions.old.items sessions.new.items fates.old.items fates.new.items }
+    requires well { AreSessions sessions.old.items fates.old.items }
+    ensures { IsOver (owner_after end.now) s sessions.old.items sessions.new.items fates.old.items fates.new.items }
 {
     let session = &mut sessions[s.place()];
     turn(fates, session.places(), end);

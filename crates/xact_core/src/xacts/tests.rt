@@ -1,3 +1,4 @@
+// Worked runs of the calls: levels, owners and views step by step, and runs far past small numbers.
 ghost use Rattle.std.specs.Prelude.{◌≡◌, [], ◌∷◌, ◌++◌};
 
 use super::*;
@@ -10,6 +11,8 @@ enum Act {
     Tick,
     Begin(u8),
     Push(u8, &'static [u8]),
+    /// A transaction with levels above the first, named by one letter each, and a stamp in each of its levels.
+    Nest(u8, &'static [u8]),
     Release(u8, u64),
     Undo(u8, u64),
     Commit(u8),
@@ -37,6 +40,7 @@ enum Act {
 /// Transactions with what was taken of them, and the number of their undoings.
 #[derive(Drop)]
 struct Bench {
+    alloc: Global,
     xacts: Xacts,
     undos: u64,
     stamps: Vec<Stamp>,
@@ -51,6 +55,7 @@ fn session(rt: &impl Abort, number: u8) -> SessionNo {
 impl Bench {
     fn new(rt: &impl Abort, alloc: Global) -> Bench {
         Bench {
+            alloc,
             xacts: Xacts::new(alloc).expect(rt, "memory"),
             undos: 0,
             stamps: Vec::new(alloc),
@@ -59,7 +64,7 @@ impl Bench {
     }
 
     /// Does an act, or compares what it expects.
-    fn act(&mut self, rt: &impl Abort, alloc: Global, act: &Act)
+    fn act(&mut self, rt: &impl Abort, act: &Act)
         ensures { self.new.xacts.held ≡ self.old.xacts.held }
     {
         match act {
@@ -68,10 +73,8 @@ impl Bench {
                 self.xacts.tick();
             }
             Act::Begin(n) => self.begin(rt, session(rt, *n)),
-            Act::Push(n, name) => {
-                let name = Name::from_slice(alloc, *name).expect(rt, "memory");
-                self.push(rt, session(rt, *n), name);
-            }
+            Act::Push(n, name) => self.push(rt, session(rt, *n), name),
+            Act::Nest(n, names) => self.nest(rt, session(rt, *n), names),
             Act::Release(n, level) => {
                 let s = session(rt, *n);
                 assert!(rt; 2 <= *level && *level <= self.xacts.levels(s));
@@ -88,11 +91,7 @@ impl Bench {
                 assert!(rt; self.xacts.levels(s) > 0);
                 self.xacts.abort(s);
             }
-            Act::Stamp(n) => {
-                let s = session(rt, *n);
-                assert!(rt; self.xacts.levels(s) > 0);
-                self.stamps.push(self.xacts.stamp(s)).expect(rt, "memory");
-            }
+            Act::Stamp(n) => self.stamp(rt, session(rt, *n)),
             Act::Look(n) => self
                 .looks
                 .push(self.xacts.snapshot(session(rt, *n)))
@@ -102,17 +101,24 @@ impl Bench {
                 assert!(rt; *k < self.xacts.views());
                 self.looks.push(self.xacts.view(*k)).expect(rt, "memory");
             }
+            _ => self.compare(rt, act),
+        }
+    }
+
+    fn compare(&self, rt: &impl Abort, act: &Act) {
+        match act {
             Act::Sees(look, wanted) => self.compare_seen(rt, *look, wanted),
             Act::Owners(wanted) => self.compare_owners(rt, wanted),
             Act::Levels(n, wanted) => assert_eq!(rt; self.xacts.levels(session(rt, *n)), *wanted),
             Act::Newest(n, name, wanted) => {
-                let name = Name::from_slice(alloc, *name).expect(rt, "memory");
+                let name = Name::from_slice(self.alloc, *name).expect(rt, "memory");
                 assert_eq!(rt;
                     self.xacts.newest(session(rt, *n), &name).unwrap_or(0),
                     *wanted
                 );
             }
             Act::Views(wanted) => assert_eq!(rt; self.xacts.views(), *wanted),
+            _ => (),
         }
     }
 
@@ -124,19 +130,38 @@ impl Bench {
         self.xacts.begin(s).expect(rt, "memory");
     }
 
-    fn push(&mut self, rt: &impl Abort, s: SessionNo, name: Name)
+    fn push(&mut self, rt: &impl Abort, s: SessionNo, name: &[u8])
         ensures { self.new.xacts.held ≡ self.old.xacts.held }
     {
+        let name = Name::from_slice(self.alloc, name).expect(rt, "memory");
         assert!(rt; self.xacts.levels(s) > 0);
         assert!(rt; self.xacts.views() < 1000);
         self.xacts.push_level(s, name).expect(rt, "memory");
+    }
+
+    fn stamp(&mut self, rt: &impl Abort, s: SessionNo)
+        ensures { self.new.xacts.held ≡ self.old.xacts.held }
+    {
+        assert!(rt; self.xacts.levels(s) > 0);
+        self.stamps.push(self.xacts.stamp(s)).expect(rt, "memory");
+    }
+
+    fn nest(&mut self, rt: &impl Abort, s: SessionNo, names: &[u8])
+        ensures { self.new.xacts.held ≡ self.old.xacts.held }
+    {
+        self.begin(rt, s);
+        self.stamp(rt, s);
+        for index in 0..names.len() {
+            self.push(rt, s, &names[index..index + 1]);
+            self.stamp(rt, s);
+        }
     }
 
     fn undo(&mut self, rt: &impl Abort, s: SessionNo, level: u64)
         ensures { self.new.xacts.held ≡ self.old.xacts.held }
     {
         assert!(rt; 1 <= level && level <= self.xacts.levels(s));
-        assert!(rt; self.undos < 1000);
+        assert!(rt; self.undos < 1 << 20);
         self.xacts.undo_level(s, level);
         self.undos += 1;
     }
@@ -168,165 +193,173 @@ impl Bench {
     }
 }
 
-fn run(rt: &impl Abort, alloc: Global, acts: &[Act]) {
+fn run(rt: &impl Abort, alloc: Global, acts: &[Act]) -> Bench {
     let mut bench = Bench::new(rt, alloc);
     for act in acts {
-        bench.act(rt, alloc, act);
+        bench.act(rt, act);
+    }
+    bench
+}
+
+/// Runs of one session, each from the start.
+const RUNS: [&[Act]; 5] = [
+    // Levels with equal names: the newest one is found.
+    &[
+        Act::Levels(3, 0),
+        Act::Nest(3, b"sts"),
+        Act::Levels(3, 4),
+        Act::Newest(3, b"s", 4),
+        Act::Newest(3, b"t", 3),
+        Act::Newest(3, b"u", 0),
+        Act::Newest(3, b"", 0),
+        Act::Release(3, 4),
+        Act::Newest(3, b"s", 2),
+        Act::Newest(4, b"s", 0),
+        Act::Undo(3, 2),
+        Act::Newest(3, b"s", 2),
+        Act::Newest(3, b"t", 0),
+    ],
+    // A release of a level below others.
+    &[
+        Act::Nest(1, b"abc"),
+        Act::Owners(b"1234"),
+        Act::Release(1, 3),
+        Act::Levels(1, 2),
+        Act::Owners(b"1222"),
+        Act::Stamp(1),
+        Act::Owners(b"12222"),
+        Act::Undo(1, 2),
+        Act::Levels(1, 2),
+        Act::Owners(b"1----"),
+        Act::Commit(1),
+        Act::Levels(1, 0),
+        Act::Owners(b"c----"),
+    ],
+    // An undoing of a level below others, and an abort.
+    &[
+        Act::Nest(2, b"ab"),
+        Act::Undo(2, 2),
+        Act::Levels(2, 2),
+        Act::Newest(2, b"b", 0),
+        Act::Owners(b"1--"),
+        Act::Stamp(2),
+        Act::Owners(b"1--2"),
+        Act::Abort(2),
+        Act::Levels(2, 0),
+        Act::Owners(b"----"),
+        Act::Begin(2),
+        Act::Stamp(2),
+        Act::Owners(b"----1"),
+    ],
+    // The kept views of a session, and those after its commit.
+    &[
+        Act::Tick,
+        Act::Views(1),
+        Act::Nest(2, b"ab"),
+        Act::Views(5),
+        Act::LookAt(0),
+        Act::Sees(0, b"nnn"),
+        Act::LookAt(1),
+        Act::Sees(1, b"yyy"),
+        Act::LookAt(2),
+        Act::Sees(2, b"nnn"),
+        Act::LookAt(3),
+        Act::Sees(3, b"ynn"),
+        Act::LookAt(4),
+        Act::Sees(4, b"yyn"),
+        Act::Commit(2),
+        Act::Views(1),
+        Act::LookCommitted,
+        Act::Sees(5, b"yyy"),
+        Act::Look(1),
+        Act::Sees(6, b"yyy"),
+    ],
+    // Views below levels after a release of the upper one.
+    &[
+        Act::Nest(1, b"ab"),
+        Act::LookAt(3),
+        Act::LookAt(4),
+        Act::Sees(0, b"ynn"),
+        Act::Sees(1, b"yyn"),
+        Act::Release(1, 3),
+        Act::Sees(0, b"ynn"),
+        Act::Sees(1, b"yyy"),
+    ],
+];
+
+#[test]
+fn runs_of_one_session(rt: HostRuntime) {
+    for acts in &RUNS {
+        run(&rt, rt.alloc(), acts);
+    }
+}
+
+/// Does the same acts again and again.
+fn repeat(rt: &impl Abort, bench: &mut Bench, times: usize, acts: &[Act]) {
+    for _time in 0..times {
+        for act in acts {
+            bench.act(rt, act);
+        }
     }
 }
 
 #[test]
-fn levels_with_equal_names(rt: HostRuntime) {
-    run(
+fn a_hundred_thousand_savepoints(rt: HostRuntime) {
+    let mut bench = run(&rt, rt.alloc(), &[Act::Nest(1, b""), Act::Begin(2)]);
+    repeat(
         &rt,
-        rt.alloc(),
-        &[
-            Act::Levels(3, 0),
-            Act::Begin(3),
-            Act::Push(3, b"s"),
-            Act::Push(3, b"t"),
-            Act::Push(3, b"s"),
-            Act::Levels(3, 4),
-            Act::Newest(3, b"s", 4),
-            Act::Newest(3, b"t", 3),
-            Act::Newest(3, b"u", 0),
-            Act::Newest(3, b"", 0),
-            Act::Release(3, 4),
-            Act::Newest(3, b"s", 2),
-            Act::Newest(4, b"s", 0),
-            Act::Undo(3, 2),
-            Act::Newest(3, b"s", 2),
-            Act::Newest(3, b"t", 0),
-        ],
+        &mut bench,
+        100_000,
+        &[Act::Push(1, b"a"), Act::Release(1, 2)],
     );
+    bench.act(&rt, &Act::Levels(1, 1));
+    bench.act(&rt, &Act::Push(1, b"a"));
+    bench.act(&rt, &Act::Stamp(1));
+    repeat(
+        &rt,
+        &mut bench,
+        10_000,
+        &[Act::Push(1, b"b"), Act::Undo(1, 2)],
+    );
+    bench.act(&rt, &Act::Stamp(1));
+    for act in &[
+        Act::Levels(1, 2),
+        Act::Views(6),
+        Act::Newest(1, b"a", 2),
+        Act::Newest(1, b"b", 0),
+        Act::Owners(b"1-2"),
+        Act::Commit(1),
+        Act::Owners(b"c-c"),
+    ] {
+        bench.act(&rt, act);
+    }
 }
 
 #[test]
-fn release_into_the_middle(rt: HostRuntime) {
-    run(
-        &rt,
-        rt.alloc(),
-        &[
-            Act::Begin(1),
-            Act::Stamp(1),
-            Act::Push(1, b"a"),
-            Act::Stamp(1),
-            Act::Push(1, b"b"),
-            Act::Stamp(1),
-            Act::Push(1, b"c"),
-            Act::Stamp(1),
-            Act::Owners(b"1234"),
-            Act::Release(1, 3),
-            Act::Levels(1, 2),
-            Act::Owners(b"1222"),
-            Act::Stamp(1),
-            Act::Owners(b"12222"),
-            Act::Undo(1, 2),
-            Act::Levels(1, 2),
-            Act::Owners(b"1----"),
-            Act::Commit(1),
-            Act::Levels(1, 0),
-            Act::Owners(b"c----"),
-        ],
-    );
-}
-
-#[test]
-fn undo_of_a_level_below_others(rt: HostRuntime) {
-    run(
-        &rt,
-        rt.alloc(),
-        &[
-            Act::Begin(2),
-            Act::Stamp(2),
-            Act::Push(2, b"a"),
-            Act::Stamp(2),
-            Act::Push(2, b"b"),
-            Act::Stamp(2),
-            Act::Undo(2, 2),
-            Act::Levels(2, 2),
-            Act::Newest(2, b"b", 0),
-            Act::Owners(b"1--"),
-            Act::Stamp(2),
-            Act::Owners(b"1--2"),
-            Act::Abort(2),
-            Act::Levels(2, 0),
-            Act::Owners(b"----"),
-            Act::Begin(2),
-            Act::Stamp(2),
-            Act::Owners(b"----1"),
-        ],
-    );
-}
-
-#[test]
-fn kept_views_of_a_session(rt: HostRuntime) {
-    run(
-        &rt,
-        rt.alloc(),
-        &[
-            Act::Tick,
-            Act::Views(1),
-            Act::Begin(2),
-            Act::Views(3),
-            Act::Stamp(2),
-            Act::Push(2, b"a"),
-            Act::Stamp(2),
-            Act::Push(2, b"b"),
-            Act::Stamp(2),
-            Act::Views(5),
-            Act::LookAt(0),
-            Act::Sees(0, b"nnn"),
-            Act::LookAt(1),
-            Act::Sees(1, b"yyy"),
-            Act::LookAt(2),
-            Act::Sees(2, b"nnn"),
-            Act::LookAt(3),
-            Act::Sees(3, b"ynn"),
-            Act::LookAt(4),
-            Act::Sees(4, b"yyn"),
-            Act::Commit(2),
-            Act::Views(1),
-            Act::LookCommitted,
-            Act::Sees(5, b"yyy"),
-            Act::Look(1),
-            Act::Sees(6, b"yyy"),
-        ],
-    );
-}
-
-#[test]
-fn views_below_levels_after_a_release(rt: HostRuntime) {
-    run(
-        &rt,
-        rt.alloc(),
-        &[
-            Act::Begin(1),
-            Act::Stamp(1),
-            Act::Push(1, b"a"),
-            Act::Stamp(1),
-            Act::Push(1, b"b"),
-            Act::Stamp(1),
-            Act::LookAt(3),
-            Act::LookAt(4),
-            Act::Sees(0, b"ynn"),
-            Act::Sees(1, b"yyn"),
-            Act::Release(1, 3),
-            Act::Sees(0, b"ynn"),
-            Act::Sees(1, b"yyy"),
-        ],
-    );
+fn a_hundred_levels(rt: HostRuntime) {
+    let mut bench = run(&rt, rt.alloc(), &[Act::Nest(7, b"")]);
+    repeat(&rt, &mut bench, 100, &[Act::Push(7, b"s")]);
+    for act in &[
+        Act::Newest(7, b"s", 101),
+        Act::Stamp(7),
+        Act::Undo(7, 101),
+        Act::Stamp(7),
+        Act::Release(7, 3),
+        Act::Levels(7, 2),
+        Act::Owners(b"1-2"),
+    ] {
+        bench.act(&rt, act);
+    }
 }
 
 #[test]
 fn sixteen_sessions(rt: HostRuntime) {
     let mut bench = Bench::new(&rt, rt.alloc());
     for number in 1..=SESSIONS {
-        bench.act(&rt, rt.alloc(), &Act::Begin(number));
-        bench.act(&rt, rt.alloc(), &Act::Stamp(number));
-        bench.act(&rt, rt.alloc(), &Act::Look(number));
+        bench.act(&rt, &Act::Nest(number, b""));
+        bench.act(&rt, &Act::Look(number));
     }
-    bench.act(&rt, rt.alloc(), &Act::Views(33));
+    bench.act(&rt, &Act::Views(33));
     for (index, look) in bench.looks.iter().enumerate() {
         for (other, stamp) in bench.stamps.iter().enumerate() {
             assert_eq!(rt;
@@ -336,12 +369,16 @@ fn sixteen_sessions(rt: HostRuntime) {
             );
         }
     }
-    bench.act(&rt, rt.alloc(), &Act::Commit(16));
-    bench.act(&rt, rt.alloc(), &Act::Abort(1));
-    bench.act(&rt, rt.alloc(), &Act::Undo(2, 1));
-    bench.act(&rt, rt.alloc(), &Act::Owners(b"--1111111111111c"));
-    bench.act(&rt, rt.alloc(), &Act::Sees(0, b"nnnnnnnnnnnnnnny"));
-    bench.act(&rt, rt.alloc(), &Act::Sees(14, b"nnnnnnnnnnnnnnyy"));
+    for act in &[
+        Act::Commit(16),
+        Act::Abort(1),
+        Act::Undo(2, 1),
+        Act::Owners(b"--1111111111111c"),
+        Act::Sees(0, b"nnnnnnnnnnnnnnny"),
+        Act::Sees(14, b"nnnnnnnnnnnnnnyy"),
+    ] {
+        bench.act(&rt, act);
+    }
 }
 
 /// Holds the view of a session that has a transaction.
@@ -359,36 +396,36 @@ fn held(rt: &impl Abort, bench: &mut Bench, number: u8) -> Hold
 fn holds_of_one_session_round_a_commit_of_another(rt: HostRuntime) {
     let mut bench = Bench::new(&rt, rt.alloc());
     for act in [Act::Tick, Act::Begin(1), Act::Begin(2), Act::Stamp(2)] {
-        bench.act(&rt, rt.alloc(), &act);
+        bench.act(&rt, &act);
     }
     let before = held(&rt, &mut bench, 1);
-    bench.act(&rt, rt.alloc(), &Act::Tick);
-    bench.act(&rt, rt.alloc(), &Act::Commit(2));
-    bench.act(&rt, rt.alloc(), &Act::Tick);
+    bench.act(&rt, &Act::Tick);
+    bench.act(&rt, &Act::Commit(2));
+    bench.act(&rt, &Act::Tick);
     let after = held(&rt, &mut bench, 1);
-    bench.act(&rt, rt.alloc(), &Act::Views(5));
+    bench.act(&rt, &Act::Views(5));
     let stamp = bench.stamps.first().copied().expect(&rt, "a stamp");
     assert!(rt; !bench.xacts.sees(&before.snapshot(), stamp));
     assert!(rt; bench.xacts.sees(&after.snapshot(), stamp));
     bench.xacts.let_go(after);
-    bench.act(&rt, rt.alloc(), &Act::Views(4));
-    bench.act(&rt, rt.alloc(), &Act::LookAt(3));
-    bench.act(&rt, rt.alloc(), &Act::Sees(0, b"n"));
+    bench.act(&rt, &Act::Views(4));
+    bench.act(&rt, &Act::LookAt(3));
+    bench.act(&rt, &Act::Sees(0, b"n"));
 }
 
 #[test]
 fn holds_round_an_own_edit(rt: HostRuntime) {
     let mut bench = Bench::new(&rt, rt.alloc());
-    bench.act(&rt, rt.alloc(), &Act::Tick);
-    bench.act(&rt, rt.alloc(), &Act::Begin(1));
+    bench.act(&rt, &Act::Tick);
+    bench.act(&rt, &Act::Begin(1));
     let before = held(&rt, &mut bench, 1);
-    bench.act(&rt, rt.alloc(), &Act::Tick);
-    bench.act(&rt, rt.alloc(), &Act::Stamp(1));
-    bench.act(&rt, rt.alloc(), &Act::Tick);
+    bench.act(&rt, &Act::Tick);
+    bench.act(&rt, &Act::Stamp(1));
+    bench.act(&rt, &Act::Tick);
     let after = held(&rt, &mut bench, 1);
     let stamp = bench.stamps.first().copied().expect(&rt, "a stamp");
     assert!(rt; !bench.xacts.sees(&before.snapshot(), stamp));
     assert!(rt; bench.xacts.sees(&after.snapshot(), stamp));
-    bench.act(&rt, rt.alloc(), &Act::Undo(1, 1));
+    bench.act(&rt, &Act::Undo(1, 1));
     assert!(rt; !bench.xacts.sees(&after.snapshot(), stamp));
 }

@@ -1,6 +1,6 @@
 use Rattle.std.proofs.Common.{◌<◌, ◌≤◌, Some, ap, sym, ◌∙◌, arith}
 use Rattle.xact_core.specs.Kept.{views_of}
-use Rattle.xact_core.proofs.Views.{found_in_session, behind_session}
+use Rattle.xact_core.proofs.ViewOrder.{found_in_session, behind_session}
 use Rattle.xact_core.proofs.xacts.open_view.Goals as goal
 
 pub returns-then-left-views : goal.returns-then-left-views

@@ -1,6 +1,6 @@
 use Rattle.std.proofs.Common.{[], ◌∷◌, ◌++◌, length-append, ap, ◌∙◌, arith}
 use Rattle.xact_core.specs.declared.snapshot.Snapshot.{Snapshot}
-use Rattle.xact_core.proofs.Steps.{few_there, hold_others, hold_whole, same_others, same_whole}
+use Rattle.xact_core.proofs.Contracts.{few_there, hold_others, hold_whole, same_others, same_whole}
 use Rattle.xact_core.proofs.xacts.Xacts.hold.Goals as goal
 
 pub invariant_of-self-2 : goal.invariant_of-self-2

@@ -1,9 +1,9 @@
-use Rattle.std.proofs.Common.{◌∷◌, ap, subst, ◌∙◌}
+use Rattle.std.proofs.Common.{◌∷◌, subst}
 use Rattle.std.specs.Prelude.{IsPermutation}
 use Rattle.xact_core.specs.declared.snapshot.Snapshot.{Snapshot}
 use Rattle.xact_core.specs.Kept.{TakesOut}
 use Rattle.xact_core.specs.Transactions.{Transactions}
-use Rattle.xact_core.proofs.Steps.{taken_order, let_go_views, let_go_others, let_go_whole}
+use Rattle.xact_core.proofs.Contracts.{taken_order, let_go_views, let_go_others, let_go_whole}
 use Rattle.xact_core.proofs.xacts.Xacts.let_go.Goals as goal
 
 takes : (c : goal.After-take_out) → TakesOut c.args.hold c.self.inside.held.items c.take_out.new.held.items

@@ -1,5 +1,5 @@
 use Rattle.std.proofs.Common.{ap, length, sym, ◌∙◌}
-use Rattle.xact_core.proofs.Steps.{names_read, owners_there}
+use Rattle.xact_core.proofs.Contracts.{names_read, owners_there}
 use Rattle.xact_core.proofs.xacts.Xacts.levels.Goals as goal
 
 pub returns-clause-count : goal.returns-clause-count

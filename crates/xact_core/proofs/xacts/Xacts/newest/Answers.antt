@@ -1,4 +1,4 @@
-use Rattle.xact_core.proofs.Steps.{names_read}
+use Rattle.xact_core.proofs.Contracts.{names_read}
 use Rattle.xact_core.proofs.xacts.Xacts.newest.Goals as goal
 
 pub returns : goal.returns

@@ -1,5 +1,5 @@
 use Rattle.std.proofs.Common.{refl}
-use Rattle.xact_core.proofs.Steps.{few_there, opened_xacts, opened_seen}
+use Rattle.xact_core.proofs.Contracts.{few_there, opened_xacts, opened_seen}
 use Rattle.xact_core.proofs.xacts.Xacts.open_level.Goals as goal
 
 pub invariant_of-self-2 : goal.invariant_of-self-2

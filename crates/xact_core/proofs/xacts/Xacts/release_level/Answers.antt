@@ -1,29 +1,29 @@
-use Rattle.std.proofs.Common.{◌-◌, ◌≤◌, take, refl, ap, arith}
-use Rattle.xact_core.specs.declared.fate.End.TheVariants.{Released}
+use Rattle.std.proofs.Common.{◌-◌, ◌≤◌, refl, arith}
 use Rattle.xact_core.specs.Ends.{release}
-use Rattle.xact_core.specs.Opened.{with_first}
-use Rattle.xact_core.proofs.EndLaws.{release_turns}
-use Rattle.xact_core.proofs.Steps.{places_there, level_there, released_well, ended, ended_count, taken}
+use Rattle.xact_core.specs.Inside.{seen_of}
+use Rattle.xact_core.specs.Opened.{opened_at, with_released}
+use Rattle.xact_core.proofs.Contracts.{level_there, ended, ended_count, taken, turns_by}
+use Rattle.xact_core.proofs.Sessions.{released_turned, released_well}
 use Rattle.xact_core.proofs.ViewLaws.{release_views, release_held}
 use Rattle.xact_core.proofs.xacts.Xacts.release_level.Goals as goal
 
-pub end_levels-requires-clause-places : goal.end_levels-requires-clause-places
-end_levels-requires-clause-places c = places_there c.self.inside c.self.invariant (c.args.s - 1)
+pub release_from-requires-clause-high : goal.release_from-requires-clause-high
+release_from-requires-clause-high c = level_there c.self.inside _ c.args.s c.args.level c.self.view_is (omega (arith, c.requires.low)) c.requires.high
 
 pub invariant_of-self : goal.invariant_of-self
 invariant_of-self c =
     record {
       clock = c.self.invariant.clock;
       undos = c.self.invariant.undos;
-      well = released_well c.args.s c.args.level c.self.inside.clock c.self.inside.undos _ _ _ _ c.requires.low (level_there c.self.inside _ c.args.s c.args.level c.self.view_is c.end_levels.ensures.low c.requires.high) c.self.invariant.well c.end_levels.ensures;
-      views = ended_count (Released c.args.s c.args.level) c.args.s (with_first (c.args.level - 1)) c.self.inside.clock c.self.inside.undos _ _ _ _ c.self.inside.held.items (taken (c.args.level - 1) _) c.self.invariant.well c.end_levels.ensures c.self.invariant.views;
+      well = released_well c.self.inside.clock c.self.inside.undos c.args.s c.args.level _ _ _ _ c.requires.low (level_there c.self.inside _ c.args.s c.args.level c.self.view_is (omega (arith, c.requires.low)) c.requires.high) c.self.invariant.well c.release_from.ensures;
+      views = ended_count _ _ c.args.s (with_released c.args.level (opened_at c.self.inside.sessions.items (c.args.s - 1))) c.self.inside.held.items c.self.invariant.well.levels.sixteen c.release_from.ensures.low c.release_from.ensures.high c.release_from.ensures.levels (taken (c.args.level - 1) _) c.self.invariant.views;
     }
 
 pub returns-clause-ends : goal.returns-clause-ends
 returns-clause-ends c =
-    ended c.self.inside (record { clock = c.self.inside.clock; undos = c.self.inside.undos; sessions = c.end_levels.new.sessions; fates = c.end_levels.new.fates; held = c.self.inside.held }) _ (Released c.args.s c.args.level) c.args.s (with_first (c.args.level - 1)) (release c.args.s c.args.level) (c.args.level - 1)
-    c.self.view_is refl c.self.invariant refl (omega arith) refl refl (taken (c.args.level - 1) _)
-    (λ st since owner _. release_turns c.args.s c.args.level c.self.inside.undos st since owner) c.end_levels.ensures
+    ended c.self.inside (record { clock = c.self.inside.clock; undos = c.self.inside.undos; sessions = c.release_from.new.sessions; fates = c.release_from.new.fates; held = c.self.inside.held }) _ c.args.s (with_released c.args.level (opened_at c.self.inside.sessions.items (c.args.s - 1))) (release c.args.s c.args.level) (c.args.level - 1)
+    c.self.view_is c.self.invariant c.release_from.ensures.low c.release_from.ensures.high c.release_from.ensures.levels refl refl refl
+    (turns_by (release c.args.s c.args.level) (seen_of c.self.inside) _ (released_turned c.self.inside.clock c.self.inside.undos c.args.s c.args.level _ _ _ _ c.requires.low (level_there c.self.inside _ c.args.s c.args.level c.self.view_is (omega (arith, c.requires.low)) c.requires.high) c.self.invariant.well c.release_from.ensures) refl refl)
 
 pub returns-clause-views : goal.returns-clause-views
 returns-clause-views c = let low : 1 ≤ c.args.level = omega (arith, c.requires.low) in record { sees = release_views c.args.s c.args.level c.args.self.now _ low (returns-clause-ends c).owners }

@@ -1,4 +1,4 @@
-use Rattle.xact_core.proofs.Steps.{whole_there, none_there}
+use Rattle.xact_core.proofs.Contracts.{whole_there, none_there}
 use Rattle.xact_core.proofs.xacts.Xacts.snapshot.Goals as goal
 
 pub returns-clause-kept : goal.returns-clause-kept

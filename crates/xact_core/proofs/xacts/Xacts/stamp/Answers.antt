@@ -1,6 +1,6 @@
 use Rattle.std.proofs.Common.{◌≡◌, ap, ◌∙◌}
 use Rattle.xact_core.specs.declared.stamp.Stamp.{Stamp}
-use Rattle.xact_core.proofs.Steps.{top_there, stamp_owner, stamp_issued}
+use Rattle.xact_core.proofs.Contracts.{top_there, stamp_owner, stamp_issued}
 use Rattle.xact_core.specs.Stamp.{made_at}
 use Rattle.xact_core.specs.Transactions.{Transactions}
 use Rattle.xact_core.proofs.ViewLaws.{stamp_seen, stamp_hidden, stamp_later}

@@ -5,8 +5,8 @@ use Rattle.xact_core.specs.Inside.{names_of, views_in}
 use Rattle.xact_core.specs.Kept.{sessions_views, kept_views}
 use Rattle.xact_core.specs.Opened.{Opened}
 use Rattle.xact_core.specs.Transactions.{Transactions}
-use Rattle.xact_core.proofs.Steps.{count_there}
-use Rattle.xact_core.proofs.Views.{contains_at, kept_open, open_past, kept_held}
+use Rattle.xact_core.proofs.Contracts.{count_there}
+use Rattle.xact_core.proofs.ViewOrder.{contains_at, kept_open, open_past, kept_held}
 use Rattle.xact_core.proofs.xacts.Xacts.view.Goals as goal
 
 pub overflow_sub-place : goal.overflow_sub-place

@@ -1,7 +1,7 @@
 use Rattle.std.proofs.Common.{ap, arith}
 use Rattle.std.specs.Prelude.{sum_by}
 use Rattle.xact_core.specs.Inside.{views_in}
-use Rattle.xact_core.proofs.Steps.{count_there}
+use Rattle.xact_core.proofs.Contracts.{count_there}
 use Rattle.xact_core.proofs.xacts.Xacts.views.Goals as goal
 
 pub returns : goal.returns

@@ -1,13 +1,13 @@
-use Rattle.std.proofs.Common.{ℕ, suc, ◌+◌, ◌<◌, ◌≡◌, ◌≢◌, Bool, true, false, ◌⊎◌, List, [], ◌∷◌, ◌++◌, length, Option, Some, None, refl, ap, sym, subst, ◌∙◌, arith, length-set, drop, drop-cons}
+-- What a list has at a place after it was changed, and which places are among some.
+use Rattle.std.proofs.Common.{ℕ, zero, suc, ◌+◌, ◌<◌, ◌≤◌, ◌≡◌, ◌≢◌, Bool, true, false, ◌⊎◌, List, [], ◌∷◌, ◌++◌, length, Option, Some, None, refl, ap, sym, subst, ◌∙◌, arith, length-set, take, drop, drop-cons}
 use Rattle.std.specs.Prelude.{option_map, slice_get, slice_set, slice_index_or, ◌==◌, ◌||◌, if◌then◌else◌}
+use Rattle.std.proofs.lemmas.Bool.{false≢true}
 use Rattle.std.proofs.lemmas.Bool.Decides.{nat_tests}
 use Rattle.std.proofs.lemmas.Grind.{common_steps}
 use Rattle.std.proofs.lemmas.Option.{gets, slice_get_within, slice_get_read}
 use Rattle.xact_core.specs.declared.fate.Fate.{Fate}
 use Rattle.xact_core.specs.Fate.{turned_one, turned_at}
 use Rattle.xact_core.specs.Inside.{is_among}
-
--- What a list has at a place after it was changed.
 
 pub set_here : {A : Type 0} (xs : List A) (i : ℕ) (v : A) → i < length xs → slice_get (slice_set xs i v) i ≡ Some v
 set_here xs i v within = grind (arith, common_steps, gets)
@@ -69,3 +69,57 @@ turned_next f places n fates target v more within read so_far =
     let front : drop n places ≡ place ∷ drop (n + 1) places = subst (λ (m : ℕ). drop n places ≡ place ∷ drop m places) next (drop-cons places n 0 more) in
     let step : turned_at f (place ∷ drop (n + 1) places) fates ≡ target = subst (λ (ps : List ℕ). turned_at f ps fates ≡ target) front so_far in
     subst (λ (o : Option Fate). turned_at f (drop (n + 1) places) (turned_one f place o fates) ≡ target) is step
+
+-- Which places are among some
+
+-- one test or another
+pub or_false : (b : Bool) → (b || false) ≡ b
+or_false true = refl
+or_false false = refl
+
+pub or_true : (a b : Bool) → b ≡ true → (a || b) ≡ true
+or_true true b is = refl
+or_true false b is = is
+
+pub among_both : (xs ys : List ℕ) (i : ℕ) → is_among (xs ++ ys) i ≡ (is_among xs i || is_among ys i)
+among_both [] ys i = refl
+among_both (x ∷ xs) ys i = rw (among_both xs ys i) (joined_left (x == i) (is_among xs i) (is_among ys i))
+  where
+    joined_left : (a b c : Bool) → (a || (b || c)) ≡ ((a || b) || c)
+    joined_left true b c = refl
+    joined_left false b c = refl
+
+pub among_push : (xs : List ℕ) (n i : ℕ) → is_among (xs ++ n ∷ []) i ≡ (is_among xs i || (n == i))
+among_push xs n i = among_both xs (n ∷ []) i ∙ ap (λ (b : Bool). is_among xs i || b) (or_false (n == i))
+
+-- what is among the places from one on is among all
+pub among_drop : (n : ℕ) (xs : List ℕ) (i : ℕ) → is_among (drop n xs) i ≡ true → is_among xs i ≡ true
+among_drop zero xs i here = here
+among_drop (suc n) [] i here = here
+among_drop (suc n) (x ∷ xs) i here = or_true (x == i) (is_among xs i) (among_drop n xs i here)
+
+-- the place at an index is among those from a lower one on
+pub among_from : (n m : ℕ) (xs : List ℕ) → n ≤ m → m < length xs → is_among (drop n xs) (slice_index_or xs m 0) ≡ true
+among_from n m [] less within = absurd (omega arith)
+among_from zero zero (x ∷ xs) less within = first (x == x) (grind (arith, nat_tests)) (is_among xs x)
+  where
+    first : (b : Bool) → b ≡ true → (c : Bool) → (b || c) ≡ true
+    first true is c = refl
+    first false is c = absurd (false≢true is)
+among_from zero (suc m) (x ∷ xs) less within = or_true (x == slice_index_or xs m 0) _ (among_from zero m xs (omega arith) (omega arith))
+among_from (suc n) zero (x ∷ xs) less within = absurd (omega arith)
+among_from (suc n) (suc m) (x ∷ xs) less within = among_from n m xs (omega arith) (omega arith)
+
+-- one more of the first elements
+pub take_more : {A : Type 0} (n : ℕ) (xs : List A) (d : A) → n < length xs → take (n + 1) xs ≡ take n xs ++ slice_index_or xs n d ∷ []
+take_more n [] d within = absurd (omega arith)
+take_more zero (x ∷ xs) d within = refl
+take_more {A} (suc n) (x ∷ xs) d within =
+    let next : suc n + 1 ≡ suc (n + 1) = omega arith in
+    ap (λ (m : ℕ). take m (x ∷ xs)) next ∙ ap (λ (ys : List A). x ∷ ys) (take_more n xs d (omega arith))
+
+pub index_take : (n k : ℕ) (xs : List ℕ) → k < n → slice_index_or (take n xs) k 0 ≡ slice_index_or xs k 0
+index_take zero k xs lower = absurd (omega arith)
+index_take (suc n) k [] lower = refl
+index_take (suc n) zero (x ∷ xs) lower = refl
+index_take (suc n) (suc k) (x ∷ xs) lower = index_take n k xs (omega arith)

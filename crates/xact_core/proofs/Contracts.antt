@@ -1,51 +1,37 @@
-use Rattle.std.proofs.Common.{ℕ, zero, suc, ◌+◌, ◌-◌, ◌^◌, ◌<◌, ◌≤◌, ◌≡◌, ◌≢◌, ◌⊎◌, ⊎_elim, Bool, true, false, List, [], ◌∷◌, ◌++◌, length, take, map, Option, Some, None, refl, ap, sym, subst, ◌∙◌, arith, length-append, get_or-set_same, get_or-set_other}
-use Rattle.std.specs.Prelude.{option_and_then, slice_get, slice_set, slice_index, slice_index_or, sum_by, nat_lt, ◌==◌, if◌then◌else◌, All, Contains, IsPermutation}
+-- What the steps of `Xacts` do to its fields, and to what contracts see.
+use Rattle.std.proofs.Common.{ℕ, zero, suc, ◌+◌, ◌-◌, ◌^◌, ◌<◌, ◌≤◌, ◌≡◌, ◌≢◌, ⊎_elim, Bool, true, false, List, [], ◌∷◌, ◌++◌, length, take, map, Option, Some, None, refl, ap, sym, subst, ◌∙◌, arith, length-append, length-set, get_or-set_same, get_or-set_other}
+use Rattle.std.specs.Prelude.{option_and_then, slice_get, slice_set, slice_index, slice_index_or, sum_by, nat_lt, ◌==◌, if◌then◌else◌, Contains, IsPermutation}
 use Rattle.std.proofs.lemmas.Bool.Decides.{nat_tests}
-use Rattle.std.proofs.lemmas.Bool.{cases_lt}
-use Rattle.std.proofs.lemmas.List.{length-take, map-set, get_or_past}
+use Rattle.std.proofs.lemmas.List.{length-take, map-set}
 use Rattle.std.proofs.lemmas.List.Elements.{Contains-push_cases}
 use Rattle.std.proofs.lemmas.List.Sorted.{IsPermutation-remove, IsPermutation-sym, length_permutation, Contains-permutation}
 use Rattle.std.proofs.lemmas.List.Sums.{sum_by-set}
-use Rattle.std.proofs.lemmas.Option.{none-some, slice_get-get_or, slice_get_read, get_or_from_slice_get, slice_get_within}
+use Rattle.std.proofs.lemmas.Option.{none-some, get_or_from_slice_get, slice_get_within}
 use Rattle.std.proofs.Math.ListN.{get_or-map}
 use Rattle.lo_model.specs.declared.owner.Owner.{Owner}
 use Rattle.lo_model.specs.declared.owner.Owner.TheVariants.{Running, Committed}
 use Rattle.xact_core.specs.declared.fate.Fate.{Fate}
-use Rattle.xact_core.specs.declared.fate.End.{End}
-use Rattle.xact_core.specs.declared.fate.End.TheVariants.{Released, Undone, Committed as Commit, Aborted}
 use Rattle.xact_core.specs.declared.snapshot.Snapshot.{Snapshot}
 use Rattle.xact_core.specs.declared.stamp.Stamp.{Stamp}
 use Rattle.xact_core.specs.declared.xacts.Xacts.TheInside.{Inside}
-use Rattle.xact_core.specs.Ends.{Turns, same, Opens, Ends}
+use Rattle.xact_core.specs.Ends.{Turns, same, undo, Opens, Ends}
 use Rattle.xact_core.specs.Fate.{is_some_from, fate_after, turned_at}
-use Rattle.xact_core.specs.Inside.{names_of, seen_of, owner_at, IsSession, IsWell, views_count, views_in, IsXacts}
+use Rattle.xact_core.specs.Inside.{names_of, seen_of, owner_at, runs_from, IsSession, views_count, views_in, IsXacts}
 use Rattle.xact_core.specs.Kept.{views_of, sessions_views, kept_views, current, current_committed, TakesOut, HoldsOthers, LooksWhole, HoldsWholeViews}
-use Rattle.xact_core.specs.Opened.{Opened, opened_at, with_level, with_first, with_none, IsOpened, IsEnded}
+use Rattle.xact_core.specs.Opened.{Opened, nothing, opened_at, start, from_level, first_of, with_level, running, IsOpened, IsUndone}
 use Rattle.xact_core.specs.Stamp.{made_at, owner_in, owner_of, IsIssued, HasOwners, sees_made, sees_stamp, SeesSame}
 use Rattle.xact_core.specs.Transactions.{Transactions, levels_of, HasLevels}
-use Rattle.xact_core.proofs.EndLaws.{fate, session_of, CommitsBy, none_committed, none_aborted}
-use Rattle.xact_core.proofs.Opening.{well_opened, opened_turns}
 use Rattle.xact_core.proofs.KeptViews.{cons_rest, whole_kept, held_kept}
-use Rattle.xact_core.proofs.Views.{length-kept_views}
-use Rattle.xact_core.proofs.WellLaws.{EachTurned, all_turned, release_moves, undo_moves, moved_session, ended_session, well_ended, turns_by}
-
--- What the steps of `Xacts` do to its fields, and to what contracts see.
-
-abbrev nothing : Opened
-nothing = record { names = []; places = [] }
+use Rattle.xact_core.proofs.LevelPlaces.{EachTurned, first_runs, undone_gone, top_runs, level_runs}
+use Rattle.xact_core.proofs.ListPlaces.{set_here, set_other, append_in}
+use Rattle.xact_core.proofs.Owners.{owner_turns}
+use Rattle.xact_core.proofs.Sessions.{session_well, own_read, at_read, later_well, opened_well, undone_turned}
+use Rattle.xact_core.proofs.ViewOrder.{length-kept_views}
 
 -- the levels of a session, as its fields have them and as contracts see them
 pub levels_seen : (x : Inside) (s : ℕ) → 1 ≤ s → levels_of (seen_of x) s ≡ (opened_at x.sessions.items (s - 1)).names
 levels_seen x zero low = absurd (omega arith)
 levels_seen x (suc i) low = let place : suc i - 1 ≡ i = omega arith in get_or-map names_of x.sessions.items i nothing ∙ ap (λ (n : ℕ). (opened_at x.sessions.items n).names) (sym place)
-
-pub session_there : (sessions : List Opened) (s : ℕ) → length sessions ≡ 16 → 1 ≤ s → s ≤ 16 → slice_get sessions (s - 1) ≡ Some (opened_at sessions (s - 1))
-session_there sessions s sixteen low high = slice_get-get_or sessions (s - 1) nothing (omega arith)
-
-pub session_well : (clock undos : ℕ) (sessions : List Opened) (fates : List Fate) (s : ℕ) → IsWell clock undos sessions fates → 1 ≤ s → s ≤ 16 → IsSession fates s (opened_at sessions (s - 1))
-session_well clock undos sessions fates s well low high =
-    let back : s - 1 + 1 ≡ s = omega arith in
-    subst (λ (n : ℕ). IsSession fates n (opened_at sessions (s - 1))) back (well.each (s - 1) (opened_at sessions (s - 1)) (session_there sessions s well.sixteen low high))
 
 -- one session's levels are others, as contracts see them
 pub levels_set : (x y : Inside) (s : ℕ) (new : Opened) → length x.sessions.items ≡ 16 → 1 ≤ s → s ≤ 16 → y.sessions.items ≡ slice_set x.sessions.items (s - 1) new → HasLevels s new.names (seen_of x) (seen_of y)
@@ -90,60 +76,8 @@ count_less sessions i new held within less few = omega (arith, count_fewer sessi
 pub count_more : (sessions : List Opened) (i : ℕ) (name : Option (List ℕ)) (place : ℕ) (held : List Snapshot) → i < length sessions → views_count sessions held < 2 ^ 64 - 4 → views_count (slice_set sessions i (with_level name place (opened_at sessions i))) held < 2 ^ 64
 count_more sessions i name place held within few = omega (arith, count_two sessions i name place held within)
 
--- The end of a session's levels
-
-ended_well : (e : End) (s : ℕ) (left : Opened → Opened) (clock undos undos' : ℕ) (sessions sessions' : List Opened) (fates fates' : List Fate) → session_of e ≡ s → CommitsBy e clock → ((since : ℕ) (owner : Option Owner) → since ≤ undos → (fate_after e (fate since owner)).since ≤ undos') → (EachTurned e fates (turned_at (fate_after e) (opened_at sessions (s - 1)).places fates) → IsSession (turned_at (fate_after e) (opened_at sessions (s - 1)).places fates) s (left (opened_at sessions (s - 1)))) → IsWell clock undos sessions fates → IsEnded e s left sessions sessions' fates fates' → IsWell clock undos' sessions' fates'
-ended_well e s left clock undos undos' sessions sessions' fates fates' own by keeps well_left well ended =
-    rw (ended.levels, ended.turned)
-    (well_ended e clock undos undos' sessions fates (s - 1) (opened_at sessions (s - 1)) (left (opened_at sessions (s - 1))) (omega (arith, own, ended.low)) by (session_there sessions s well.sixteen ended.low ended.high) keeps
-    (let back : s ≡ s - 1 + 1 = omega (arith, ended.low) in
-    subst (λ (n : ℕ). IsSession (turned_at (fate_after e) (opened_at sessions (s - 1)).places fates) n (left (opened_at sessions (s - 1)))) back (well_left each)) well)
-  where
-    each : EachTurned e fates (turned_at (fate_after e) (opened_at sessions (s - 1)).places fates)
-    each = all_turned e fates (opened_at sessions (s - 1)) (rw own (session_well clock undos sessions fates s well ended.low ended.high))
-
-pub released_well : (s k clock undos : ℕ) (sessions sessions' : List Opened) (fates fates' : List Fate) → 2 ≤ k → k ≤ length (opened_at sessions (s - 1)).names → IsWell clock undos sessions fates → IsEnded (Released s k) s (with_first (k - 1)) sessions sessions' fates fates' → IsWell clock undos sessions' fates'
-released_well s k clock undos sessions sessions' fates fates' low high well ended =
-    ended_well (Released s k) s (with_first (k - 1)) clock undos undos sessions sessions' fates fates' refl tt (λ since owner old. old) (λ each. moved_session (Released s k) k (k - 1) fates _ (opened_at sessions (s - 1)) (release_moves s k low) high each (session_well clock undos sessions fates s well ended.low ended.high)) well ended
-
-pub undone_well : (s k clock undos : ℕ) (sessions sessions' : List Opened) (fates fates' : List Fate) → 1 ≤ k → k ≤ length (opened_at sessions (s - 1)).names → IsWell clock undos sessions fates → IsEnded (Undone s k (undos + 1)) s (with_first k) sessions sessions' fates fates' → IsWell clock (undos + 1) sessions' fates'
-undone_well s k clock undos sessions sessions' fates fates' low high well ended =
-    ended_well (Undone s k (undos + 1)) s (with_first k) clock undos (undos + 1) sessions sessions' fates fates' refl tt keeps (λ each. moved_session (Undone s k (undos + 1)) k k fates _ (opened_at sessions (s - 1)) (undo_moves s k (undos + 1) low) high each (session_well clock undos sessions fates s well ended.low ended.high)) well ended
-  where
-    by_test : (b : Bool) (since : ℕ) (owner : Option Owner) → since ≤ undos → (if b then fate (undos + 1) (Some (Running s k)) else fate since owner).since ≤ undos + 1
-    by_test true since owner old = omega arith
-    by_test false since owner old = omega arith
-
-    keeps : (since : ℕ) (owner : Option Owner) → since ≤ undos → (fate_after (Undone s k (undos + 1)) (fate since owner)).since ≤ undos + 1
-    keeps since owner old = by_test (is_some_from s k owner) since owner old
-
-pub committed_well : (s clock undos : ℕ) (sessions sessions' : List Opened) (fates fates' : List Fate) → IsWell clock undos sessions fates → IsEnded (Commit s clock) s with_none sessions sessions' fates fates' → IsWell clock undos sessions' fates'
-committed_well s clock undos sessions sessions' fates fates' well ended =
-    ended_well (Commit s clock) s with_none clock undos undos sessions sessions' fates fates' refl (omega arith) (λ since owner old. old) (λ each. ended_session (Commit s clock) fates _ each (λ since owner i x is own. none_committed s clock since owner)) well ended
-
-pub aborted_well : (s clock undos : ℕ) (sessions sessions' : List Opened) (fates fates' : List Fate) → IsWell clock undos sessions fates → IsEnded (Aborted s) s with_none sessions sessions' fates fates' → IsWell clock undos sessions' fates'
-aborted_well s clock undos sessions sessions' fates fates' well ended =
-    ended_well (Aborted s) s with_none clock undos undos sessions sessions' fates fates' refl tt keeps (λ each. ended_session (Aborted s) fates _ each gone) well ended
-  where
-    by_test : (b : Bool) (since : ℕ) (owner : Option Owner) → since ≤ undos → (if b then fate since None else fate since owner).since ≤ undos
-    by_test true since owner old = old
-    by_test false since owner old = old
-
-    keeps : (since : ℕ) (owner : Option Owner) → since ≤ undos → (fate_after (Aborted s) (fate since owner)).since ≤ undos
-    keeps since owner old = by_test (is_some_from s 1 owner) since owner old
-
-    before : IsSession fates s (opened_at sessions (s - 1))
-    before = session_well clock undos sessions fates s well ended.low ended.high
-
-    gone : (since : ℕ) (owner : Option Owner) (i : ℕ) (x : Fate) → slice_get fates i ≡ Some x → x.owner ≡ owner → is_some_from s 0 (fate_after (Aborted s) (fate since owner)).owner ≡ false
-    gone since owner i x is own = none_aborted s since owner (λ l runs. before.above i l (ap (option_and_then (λ (y : Fate). y.owner)) is ∙ own ∙ runs))
-
--- the fates of all stamps after an end
-pub each_ended : (e : End) (s : ℕ) (left : Opened → Opened) (clock undos : ℕ) (sessions sessions' : List Opened) (fates fates' : List Fate) → session_of e ≡ s → IsWell clock undos sessions fates → IsEnded e s left sessions sessions' fates fates' → EachTurned e fates fates'
-each_ended e s left clock undos sessions sessions' fates fates' own well ended = rw ended.turned (all_turned e fates (opened_at sessions (s - 1)) (rw own (session_well clock undos sessions fates s well ended.low ended.high)))
-
-pub ended_count : (e : End) (s : ℕ) (left : Opened → Opened) (clock undos : ℕ) (sessions sessions' : List Opened) (fates fates' : List Fate) (held : List Snapshot) → length (left (opened_at sessions (s - 1))).names ≤ length (opened_at sessions (s - 1)).names → IsWell clock undos sessions fates → IsEnded e s left sessions sessions' fates fates' → views_count sessions held < 2 ^ 64 → views_count sessions' held < 2 ^ 64
-ended_count e s left clock undos sessions sessions' fates fates' held less well ended few = rw ended.levels (count_less sessions (s - 1) (left (opened_at sessions (s - 1))) held (omega (arith, well.sixteen, ended.low, ended.high)) less few)
+pub ended_count : (sessions sessions' : List Opened) (s : ℕ) (new : Opened) (held : List Snapshot) → length sessions ≡ 16 → 1 ≤ s → s ≤ 16 → sessions' ≡ slice_set sessions (s - 1) new → length new.names ≤ length (opened_at sessions (s - 1)).names → views_count sessions held < 2 ^ 64 → views_count sessions' held < 2 ^ 64
+ended_count sessions sessions' s new held sixteen low high is less few = rw is (count_less sessions (s - 1) new held (omega arith) less few)
 
 pub taken : (n : ℕ) (names : List (Option (List ℕ))) → length (take n names) ≤ length names
 taken n names = omega (arith, length-take n names)
@@ -153,56 +87,96 @@ taken n names = omega (arith, length-take n names)
 pub names_there : (x : Inside) (v : Transactions) (s : ℕ) → seen_of x ≡ v → 1 ≤ s → levels_of v s ≡ (opened_at x.sessions.items (s - 1)).names
 names_there x v s seen low = ap (λ (u : Transactions). levels_of u s) (sym seen) ∙ levels_seen x s low
 
-pub level_there : (x : Inside) (v : Transactions) (s k : ℕ) → seen_of x ≡ v → 1 ≤ s → k ≤ length (levels_of v s) → k ≤ length (opened_at x.sessions.items (s - 1)).names
-level_there x v s k seen low within = subst (λ (names : List (Option (List ℕ))). k ≤ length names) (names_there x v s seen low) within
-
-ended_levels : (x y : Inside) (v : Transactions) (e : End) (s : ℕ) (left : Opened → Opened) (names : List (Option (List ℕ))) → seen_of x ≡ v → IsXacts x → names ≡ (left (opened_at x.sessions.items (s - 1))).names → IsEnded e s left x.sessions.items y.sessions.items x.fates.items y.fates.items → HasLevels s names v (seen_of y)
-ended_levels x y v e s left names seen well is ended = subst (λ (u : Transactions). HasLevels s names u (seen_of y)) seen (rw is (levels_set x y s (left (opened_at x.sessions.items (s - 1))) well.well.sixteen ended.low ended.high ended.levels))
-
--- the owners of all stamps after an end, as contracts see them
-ended_turns : (x y : Inside) (v : Transactions) (e : End) (s : ℕ) (left : Opened → Opened) (turn : Owner → Option Owner) → seen_of x ≡ v → session_of e ≡ s → IsXacts x → y.clock ≡ x.clock → x.undos ≤ y.undos → ((st : Stamp) (since : ℕ) (owner : Option Owner) → st.undos ≤ x.undos → owner_in st (Some (fate_after e (fate since owner))) ≡ option_and_then turn (owner_in st (Some (fate since owner)))) → IsEnded e s left x.sessions.items y.sessions.items x.fates.items y.fates.items → Turns turn v (seen_of y)
-ended_turns x y v e s left turn seen own well clock undos turns ended = subst (λ (u : Transactions). Turns turn u (seen_of y)) seen (turns_by e turn (seen_of x) (seen_of y) (each_ended e s left x.clock x.undos _ _ _ _ own well.well ended) clock undos turns)
+pub level_there : (x : Inside) (v : Transactions) (s k : ℕ) → seen_of x ≡ v → 1 ≤ k → k ≤ length (levels_of v s) → k ≤ length (opened_at x.sessions.items (s - 1)).names
+level_there x v zero k seen low high = absurd (omega arith)
+level_there x v (suc i) k seen low high = subst (λ (names : List (Option (List ℕ))). k ≤ length names) (names_there x v (suc i) seen (omega arith)) high
 
 -- how many views are kept, as contracts see them and as the fields have them
--- places at which a session's fates stand
-pub places_there : (x : Inside) → IsXacts x → (i : ℕ) → All (λ k. k < length x.fates.items) (opened_at x.sessions.items i).places
-places_there x well i = ⊎_elim within past (cases_lt i (length x.sessions.items))
-  where
-    within : i < length x.sessions.items → All (λ k. k < length x.fates.items) (opened_at x.sessions.items i).places
-    within less = (well.well.each i (opened_at x.sessions.items i) (slice_get-get_or x.sessions.items i nothing less)).within
-
-    past : length x.sessions.items ≤ i → All (λ k. k < length x.fates.items) (opened_at x.sessions.items i).places
-    past more = rw (get_or_past x.sessions.items i nothing more) (λ k d less. absurd (omega arith))
-
 pub count_there : (x : Inside) (v : Transactions) → seen_of x ≡ v → length (kept_views v) ≡ views_count x.sessions.items x.held.items
 count_there x v seen = ap (λ (u : Transactions). length (kept_views u)) (sym seen) ∙ length-kept_views x
 
 pub few_there : (x : Inside) (v : Transactions) → seen_of x ≡ v → length (kept_views v) < 2 ^ 64 - 4 → views_count x.sessions.items x.held.items < 2 ^ 64 - 4
 few_there x v seen few = let counted : length (kept_views v) ≡ views_count x.sessions.items x.held.items = count_there x v seen in omega arith
 
--- no view more is kept after an end
-ended_fewer : (x y : Inside) (v : Transactions) (e : End) (s : ℕ) (left : Opened → Opened) → seen_of x ≡ v → length (left (opened_at x.sessions.items (s - 1))).names ≤ length (opened_at x.sessions.items (s - 1)).names → IsXacts x → y.held.items ≡ x.held.items → IsEnded e s left x.sessions.items y.sessions.items x.fates.items y.fates.items → length (kept_views (seen_of y)) ≤ length (kept_views v)
-ended_fewer x y v e s left seen less well held ended = rw (length-kept_views y, count_there x v seen, held, ended.levels) (count_fewer x.sessions.items (s - 1) (left (opened_at x.sessions.items (s - 1))) x.held.items (omega (arith, well.well.sixteen, ended.low, ended.high)) less)
+-- An end, as contracts see it: one session has other levels, no more than before, and each owner is turned
 
--- An end, as contracts see it
+pub ended : (x y : Inside) (v : Transactions) (s : ℕ) (new : Opened) (turn : Owner → Option Owner) (count : ℕ) → seen_of x ≡ v → IsXacts x → 1 ≤ s → s ≤ 16 → y.sessions.items ≡ slice_set x.sessions.items (s - 1) new → y.clock ≡ x.clock → y.held.items ≡ x.held.items → take count (opened_at x.sessions.items (s - 1)).names ≡ new.names → Turns turn (seen_of x) (seen_of y) → Ends turn s count v (seen_of y)
+ended x y v s new turn count seen well low high is clock held names turns =
+    subst (λ (u : Transactions). Ends turn s count u (seen_of y)) seen
+    (record {
+      levels = rw (levels_seen x s low, names) (levels_set x y s new well.well.levels.sixteen low high is);
+      owners = turns;
+      clock = clock;
+      held = held;
+      views = rw (length-kept_views y, length-kept_views x, held, is) (count_fewer x.sessions.items (s - 1) new x.held.items (omega (arith, well.well.levels.sixteen)) (rw (← names) (taken count (opened_at x.sessions.items (s - 1)).names)));
+    })
 
 -- what an end makes of the owner of each stamp that was given before it
-abbrev pub TurnsOwners : End → (undos : ℕ) → (Owner → Option Owner) → Type 0
-TurnsOwners e undos turn = (st : Stamp) (since : ℕ) (owner : Option Owner) → st.undos ≤ undos → owner_in st (Some (fate_after e (fate since owner))) ≡ option_and_then turn (owner_in st (Some (fate since owner)))
-
-pub ended : (x y : Inside) (v : Transactions) (e : End) (s : ℕ) (left : Opened → Opened) (turn : Owner → Option Owner) (count : ℕ) → seen_of x ≡ v → session_of e ≡ s → IsXacts x → y.clock ≡ x.clock → x.undos ≤ y.undos → y.held.items ≡ x.held.items → take count (opened_at x.sessions.items (s - 1)).names ≡ (left (opened_at x.sessions.items (s - 1))).names → length (left (opened_at x.sessions.items (s - 1))).names ≤ length (opened_at x.sessions.items (s - 1)).names → TurnsOwners e x.undos turn → IsEnded e s left x.sessions.items y.sessions.items x.fates.items y.fates.items → Ends turn s count v (seen_of y)
-ended x y v e s left turn count seen own well clock undos held is less turns end =
+pub turns_by : (turn : Owner → Option Owner) (old new : Transactions) → EachTurned turn old.fates new.fates → new.clock ≡ old.clock → new.undos ≡ old.undos → Turns turn old new
+turns_by turn old new each clock undos =
     record {
-      levels = ended_levels x y v e s left (take count (levels_of v s)) seen well (ap (take count) (names_there x v s seen end.low) ∙ is) end;
-      owners = ended_turns x y v e s left turn seen own well clock undos turns end;
-      clock = clock ∙ ap (λ (u : Transactions). u.clock) seen;
-      held = held ∙ ap (λ (u : Transactions). u.held) seen;
-      views = ended_fewer x y v e s left seen less well held end;
+      owners = λ st given. ap (owner_in st) (each.at st.place) ∙ owner_turns turn st (slice_get old.fates st.place);
+      issued = λ st given. record { place = rw each.size given.place; undos = rw undos given.undos; clock = rw clock given.clock };
     }
+
+-- an undoing, which begins the level again at a place that was its own
+pub undone_turns : (s k place : ℕ) (old new : Transactions) (mid : List Fate) → EachTurned (undo s k) old.fates mid → runs_from old.fates s k place ≡ true → place < length mid → new.fates ≡ slice_set mid place (running s k (old.undos + 1)) → new.clock ≡ old.clock → new.undos ≡ old.undos + 1 → Turns (undo s k) old new
+undone_turns s k place old new mid each runs within fates clock undos =
+    record {
+      owners = λ st given. rw fates (by_test st given (place == st.place) refl);
+      issued = λ st given. record { place = rw (fates, length-set mid place again) (omega (arith, each.size, given.place)); undos = rw undos (omega (arith, given.undos)); clock = rw clock given.clock };
+    }
+  where
+    again : Fate
+    again = running s k (old.undos + 1)
+
+    gone : (st : Stamp) (o : Option Fate) → is_some_from s k (option_and_then (λ (y : Fate). y.owner) o) ≡ true → option_and_then (undo s k) (owner_in st o) ≡ None
+    gone st None from = refl
+    gone st (Some x) from = by_stamp (nat_lt st.undos x.since)
+      where
+        by_stamp : (b : Bool) → option_and_then (undo s k) (if b then None else x.owner) ≡ None
+        by_stamp true = refl
+        by_stamp false = undone_gone s k x.owner from
+
+    by_test : (st : Stamp) → IsIssued old st → (b : Bool) → (place == st.place) ≡ b → owner_in st (slice_get (slice_set mid place again) st.place) ≡ option_and_then (undo s k) (owner_of old st)
+    by_test st given true same =
+        let equal : place ≡ st.place = grind (arith, nat_tests) in
+        let here : slice_get (slice_set mid place again) st.place ≡ Some again = subst (λ (n : ℕ). slice_get (slice_set mid place again) n ≡ Some again) equal (set_here mid place again within) in
+        let late : nat_lt st.undos (old.undos + 1) ≡ true = later st.undos old.undos given.undos in
+        ap (owner_in st) here ∙ rw late refl ∙ sym (gone st (slice_get old.fates st.place) (subst (λ (n : ℕ). runs_from old.fates s k n ≡ true) equal runs))
+      where
+        later : (n m : ℕ) → n ≤ m → nat_lt n (m + 1) ≡ true
+        later n m less = grind (arith, nat_tests)
+    by_test st given false other =
+        let apart : place ≢ st.place = grind (arith, nat_tests) in
+        ap (owner_in st) (set_other mid place st.place again apart ∙ each.at st.place) ∙ owner_turns (undo s k) st (slice_get old.fates st.place)
+
+pub undone_by : (x y : Inside) (s k : ℕ) → 1 ≤ k → k ≤ length (opened_at x.sessions.items (s - 1)).names → IsXacts x → y.clock ≡ x.clock → y.undos ≡ x.undos + 1 → IsUndone s k (x.undos + 1) x.sessions.items y.sessions.items x.fates.items y.fates.items → Turns (undo s k) (seen_of x) (seen_of y)
+undone_by x y s k low high well clock undos undone =
+    undone_turns s k (first_of k session) (seen_of x) (seen_of y) (turned_at (fate_after (undo s k)) (from_level k session) x.fates.items) each (first_runs s k x.fates.items session low high own)
+    (rw each.size (own.within (start session k) 0 (own.filled k low high))) undone.turned clock undos
+  where
+    session : Opened
+    session = opened_at x.sessions.items (s - 1)
+
+    own : IsSession x.fates.items s session
+    own = session_well x.clock x.undos x.sessions.items x.fates.items s well.well undone.low undone.high
+
+    each : EachTurned (undo s k) x.fates.items (turned_at (fate_after (undo s k)) (from_level k session) x.fates.items)
+    each = undone_turned x.clock x.undos (x.undos + 1) s k x.sessions.items y.sessions.items x.fates.items y.fates.items low high well.well undone
 
 -- as many views are kept where sessions and held views stay, at any clock
 pub count_stays : (x y : Inside) (v : Transactions) → seen_of x ≡ v → y.sessions.items ≡ x.sessions.items → y.held.items ≡ x.held.items → length (kept_views (seen_of y)) ≡ length (kept_views v)
 count_stays x y v seen sessions held = rw (length-kept_views y, count_there x v seen, held, sessions) refl
+
+pub ticked_xacts : (x y : Inside) (v : Transactions) → seen_of x ≡ v → v.clock < 2 ^ 63 → IsXacts x → y.clock ≡ x.clock + 1 → y.undos ≡ x.undos → y.sessions.items ≡ x.sessions.items → y.fates.items ≡ x.fates.items → y.held.items ≡ x.held.items → IsXacts y
+ticked_xacts x y v seen few well clock undos sessions fates held =
+    record {
+      clock = let before : x.clock < 2 ^ 63 = subst (λ (u : Transactions). u.clock < 2 ^ 63) (sym seen) few in rw clock (omega arith);
+      undos = rw undos well.undos;
+      well = rw (clock, undos, sessions, fates) (later_well x.clock (x.clock + 1) x.undos x.sessions.items x.fates.items (omega arith) well.well);
+      views = rw (sessions, held) well.views;
+    }
 
 -- One more level
 
@@ -211,18 +185,38 @@ opened_xacts x y s name few well clock undos held opened =
     record {
       clock = rw clock well.clock;
       undos = rw undos well.undos;
-      well = rw (clock, undos, opened.levels, opened.turned) (well_opened x.clock x.undos x.sessions.items x.fates.items (s - 1) s (opened_at x.sessions.items (s - 1)) name (omega (arith, opened.low)) (session_there x.sessions.items s well.well.sixteen opened.low opened.high) well.well);
-      views = rw (held, opened.levels) (count_more x.sessions.items (s - 1) name (length x.fates.items) x.held.items (omega (arith, well.well.sixteen, opened.low, opened.high)) few);
+      well = rw (clock, undos) (opened_well x.clock x.undos s name x.sessions.items y.sessions.items x.fates.items y.fates.items well.well opened);
+      views = rw (held, opened.levels) (count_more x.sessions.items (s - 1) name (length x.fates.items) x.held.items (omega (arith, well.well.levels.sixteen, opened.low, opened.high)) few);
+    }
+
+-- no owner changes with the clock, nor with what is held
+kept : (o : Option Owner) → o ≡ option_and_then same o
+kept None = refl
+kept (Some owner) = refl
+
+pub same_fates : (old new : Transactions) → new.fates ≡ old.fates → new.undos ≡ old.undos → old.clock ≤ new.clock → Turns same old new
+same_fates old new fates undos clock =
+    record {
+      owners = λ st given. rw fates (kept (owner_of old st));
+      issued = λ st given. record { place = rw fates given.place; undos = rw undos given.undos; clock = omega (arith, given.clock) };
+    }
+
+-- nor with a fate more
+opened_turns : (x y : Transactions) (fate : Fate) → y.fates ≡ x.fates ++ fate ∷ [] → y.clock ≡ x.clock → y.undos ≡ x.undos → Turns same x y
+opened_turns x y fate more clock undos =
+    record {
+      owners = λ st given. rw (more, append_in x.fates fate st.place given.place) (kept (owner_of x st));
+      issued = λ st given. record { place = rw (more, length-append x.fates (fate ∷ [])) (omega (arith, given.place)); undos = rw undos given.undos; clock = rw clock given.clock };
     }
 
 opened_count : (x y : Inside) (s : ℕ) (name : Option (List ℕ)) → IsXacts x → y.held.items ≡ x.held.items → IsOpened s name x.sessions.items y.sessions.items x.fates.items y.fates.items → length (kept_views (seen_of y)) ≤ length (kept_views (seen_of x)) + 2
-opened_count x y s name well held opened = rw (length-kept_views y, length-kept_views x, held, opened.levels) (count_two x.sessions.items (s - 1) name (length x.fates.items) x.held.items (omega (arith, well.well.sixteen, opened.low, opened.high)))
+opened_count x y s name well held opened = rw (length-kept_views y, length-kept_views x, held, opened.levels) (count_two x.sessions.items (s - 1) name (length x.fates.items) x.held.items (omega (arith, well.well.levels.sixteen, opened.low, opened.high)))
 
 pub opened_seen : (x y : Inside) (v : Transactions) (s : ℕ) (name : Option (List ℕ)) → seen_of x ≡ v → IsXacts x → y.clock ≡ x.clock → y.undos ≡ x.undos → y.held.items ≡ x.held.items → IsOpened s name x.sessions.items y.sessions.items x.fates.items y.fates.items → Opens s name v (seen_of y)
 opened_seen x y v s name seen well clock undos held opened =
     subst (λ (u : Transactions). Opens s name u (seen_of y)) seen
     (record {
-      levels = rw (levels_seen x s opened.low) (levels_set x y s _ well.well.sixteen opened.low opened.high opened.levels);
+      levels = rw (levels_seen x s opened.low) (levels_set x y s _ well.well.levels.sixteen opened.low opened.high opened.levels);
       owners = opened_turns (seen_of x) (seen_of y) _ opened.turned clock undos;
       clock = clock;
       undos = undos;
@@ -237,21 +231,15 @@ pub record IsTop (x : Inside) (v : Transactions) (s place : ℕ) : Type 0 where
   pub within : place < length x.fates.items
 
 own_there : (x : Inside) (s i : ℕ) (session : Opened) → IsXacts x → i + 1 ≡ s → i + 1 ≤ 16 → session ≡ slice_index_or x.sessions.items i session → IsSession x.fates.items s session
-own_there x s i session well number within read = subst (λ (n : ℕ). IsSession x.fates.items n session) number (well.well.each i session (slice_get_read x.sessions.items 16 i session (sym well.well.sixteen) (omega arith) read))
+own_there x s i session well number within read = own_read x.sessions.items x.fates.items s i session well.well.levels number within read
 
 -- the names of a session's levels, as read from the fields
 pub names_read : (x : Inside) (v : Transactions) (s i : ℕ) (session : Opened) → seen_of x ≡ v → IsXacts x → i + 1 ≡ s → i + 1 ≤ 16 → session ≡ slice_index_or x.sessions.items i session → levels_of v s ≡ session.names
-names_read x v s i session seen well number within read = names_there x v s seen (omega (arith, number)) ∙ ap names_of at
-  where
-    there : slice_get x.sessions.items i ≡ Some session
-    there = slice_get_read x.sessions.items 16 i session (sym well.well.sixteen) (omega arith) read
-
-    at : opened_at x.sessions.items (s - 1) ≡ session
-    at = let place : s - 1 ≡ i = omega arith in ap (opened_at x.sessions.items) place ∙ get_or_from_slice_get x.sessions.items i session nothing there
+names_read x v s i session seen well number within read = names_there x v s seen (omega (arith, number)) ∙ ap names_of (at_read x.sessions.items s i session well.well.levels.sixteen number within read)
 
 pub top_there : (x : Inside) (v : Transactions) (s i : ℕ) (session : Opened) → seen_of x ≡ v → IsXacts x → i + 1 ≡ s → i + 1 ≤ 16 → session ≡ slice_index_or x.sessions.items i session → 0 < length (levels_of v s) → (0 < length session.places) × IsTop x v s (slice_index session.places (length session.places - 1))
 top_there x v s i session seen well number within read some =
-    (more, record { owner = rw names (own.top named); within = own.within (length session.places - 1) 0 (omega (arith, more)) })
+    (more, record { owner = rw names (top_runs x.fates.items s session named own); within = own.within (length session.places - 1) 0 (omega (arith, more)) })
   where
     own : IsSession x.fates.items s session
     own = own_there x s i session well number within read
@@ -263,7 +251,7 @@ top_there x v s i session seen well number within read some =
     named = subst (λ (ns : List (Option (List ℕ))). 0 < length ns) names some
 
     more : 0 < length session.places
-    more = own.some named
+    more = omega (arith, own.filled 1 (omega arith) (omega (arith, named)))
 
 pub stamp_owner : (x : Inside) (v : Transactions) (s place : ℕ) (st : Stamp) → seen_of x ≡ v → IsXacts x → IsTop x v s place → st.place ≡ place → st.undos ≡ x.undos → owner_of v st ≡ Some (Running s (length (levels_of v s)))
 stamp_owner x v s place st seen well top at undos = subst (λ (u : Transactions). owner_of u st ≡ Some (Running s (length (levels_of v s)))) seen (rw at (by_fate (slice_get x.fates.items place) refl))
@@ -301,7 +289,7 @@ owners_seen : (x : Inside) → IsXacts x → HasOwners (seen_of x)
 owners_seen x well = record { session = session; level = level; committed = committed }
   where
     session : (st : Stamp) (s l : ℕ) → owner_of (seen_of x) st ≡ Some (Running s l) → (1 ≤ s) × (s ≤ 16)
-    session st s l owner = let there : HasFate x st (Running s l) = fate_there x st (Running s l) owner in (well.well.each_fate st.place there.fate there.at).session s l there.is
+    session st s l owner = let there : HasFate x st (Running s l) = fate_there x st (Running s l) owner in (well.well.each_fate st.place there.fate there.at).owner (Running s l) there.is
 
     level : (st : Stamp) (s l : ℕ) → owner_of (seen_of x) st ≡ Some (Running s l) → (1 ≤ l) × (l ≤ length (levels_of (seen_of x) s))
     level st s l owner =
@@ -309,10 +297,11 @@ owners_seen x well = record { session = session; level = level; committed = comm
         let number : (1 ≤ s) × (s ≤ 16) = session st s l owner in
         let own : IsSession x.fates.items s (opened_at x.sessions.items (s - 1)) = session_well x.clock x.undos x.sessions.items x.fates.items s well.well number.0 number.1 in
         let at : owner_at x.fates.items st.place ≡ Some (Running s l) = ap (option_and_then (λ (y : Fate). y.owner)) there.at ∙ there.is in
-        (own.above st.place l at, rw (levels_seen x s number.0) (own.below st.place l at))
+        let bounds : (1 ≤ l) × (l ≤ length (opened_at x.sessions.items (s - 1)).names) = level_runs x.fates.items s st.place l (opened_at x.sessions.items (s - 1)) own at in
+        (bounds.0, rw (levels_seen x s number.0) bounds.1)
 
     committed : (st : Stamp) (c : ℕ) → owner_of (seen_of x) st ≡ Some (Committed c) → c ≤ x.clock
-    committed st c owner = let there : HasFate x st (Committed c) = fate_there x st (Committed c) owner in (well.well.each_fate st.place there.fate there.at).committed c there.is
+    committed st c owner = let there : HasFate x st (Committed c) = fate_there x st (Committed c) owner in (well.well.each_fate st.place there.fate there.at).owner (Committed c) there.is
 
 pub owners_there : (x : Inside) (v : Transactions) → seen_of x ≡ v → IsXacts x → HasOwners v
 owners_there x v seen well = subst HasOwners seen (owners_seen x well)
@@ -385,15 +374,3 @@ pub same_others : (x : Inside) (v : Transactions) (held : List Snapshot) → see
 same_others x v held seen is =
     subst (λ (u : Transactions). HoldsOthers u (with_held x held)) seen
     (record { rest = refl; kept = λ w here. held_kept (seen_of x) w (subst (λ (views : List Snapshot). Contains views w) is here) })
-
--- no owner changes with the clock, nor with what is held
-pub same_fates : (old new : Transactions) → new.fates ≡ old.fates → new.undos ≡ old.undos → old.clock ≤ new.clock → Turns same old new
-same_fates old new fates undos clock =
-    record {
-      owners = λ st given. rw fates (kept (owner_of old st));
-      issued = λ st given. record { place = rw fates given.place; undos = rw undos given.undos; clock = omega (arith, given.clock) };
-    }
-  where
-    kept : (o : Option Owner) → o ≡ option_and_then same o
-    kept None = refl
-    kept (Some owner) = refl

@@ -1,19 +1,17 @@
+-- How many views are kept, and which one stands at a place.
 use Rattle.std.proofs.Common.{ℕ, zero, suc, ◌+◌, ◌-◌, ◌<◌, ◌≤◌, ◌≡◌, ⊎_elim, List, [], ◌∷◌, ◌++◌, length, drop, map, Option, Some, None, refl, ap, sym, subst, ◌∙◌, arith, length-append, drop-cons}
 use Rattle.std.specs.Prelude.{slice_get, slice_index_or, sum_by, Contains}
 use Rattle.std.proofs.lemmas.Bool.{cases_lt}
 use Rattle.std.proofs.lemmas.Grind.{common_steps}
 use Rattle.std.proofs.lemmas.List.Sums.{sum_by-cons}
-use Rattle.std.proofs.lemmas.List.Elements.{Contains-append_left, Contains-append_right}
 use Rattle.std.proofs.lemmas.Option.{gets, slice_get_within, slice_get-get_or, get_or_from_slice_get, none-some}
-use Rattle.lo_model.specs.declared.viewer.Viewer.TheVariants.{Nobody, Whole, Below}
+use Rattle.lo_model.specs.declared.viewer.Viewer.TheVariants.{Nobody, Below}
 use Rattle.xact_core.specs.declared.snapshot.Snapshot.{Snapshot}
 use Rattle.xact_core.specs.declared.xacts.Xacts.TheInside.{Inside}
 use Rattle.xact_core.specs.Inside.{names_of, seen_of, views_count, views_in}
 use Rattle.xact_core.specs.Kept.{view_at, viewer_of, below_views, session_views, sessions_views, kept_views, views_of}
-use Rattle.xact_core.specs.Opened.{Opened, opened_at}
-use Rattle.xact_core.proofs.Places.{append_in, append_here}
-
--- How many views are kept, and which one stands at a place.
+use Rattle.xact_core.specs.Opened.{Opened}
+use Rattle.xact_core.proofs.ListPlaces.{append_in, append_here}
 
 length-below_views : (clock s n : ℕ) → length (below_views clock s n) ≡ n
 length-below_views clock s zero = refl
