@@ -144,7 +144,8 @@ fn flatten_plain(out: &mut [u8], lower: i32, elements: &[Option<i32>])
 fn flatten_sparse(out: &mut [u8], lower: i32, elements: &[Option<i32>])
     requires few { length elements.now ≤ limit }
     requires len { length out.old ≡ sparse_start (length elements.now) + length (numbers elements.now) }
-    ensures { out.new ≡ header (data_offset (length elements.now)) (length elements.now) lower ++ (bitmap (presence elements.now) ++ (padding (length elements.now) ++ numbers elements.now)) }
+    ensures { out.new ≡ header (data_offset (length elements.now)) (length elements.now) lower
+        ++ (bitmap (presence elements.now) ++ (padding (length elements.now) ++ numbers elements.now)) }
 {
     let start = sparse_start(elements.len());
     let place = put_header(out, start as u32 + 4, elements.len() as u32, lower);

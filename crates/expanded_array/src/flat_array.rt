@@ -26,7 +26,8 @@ pub struct FlatArray {
 fn fields(bytes: &[u8]) -> (i32, usize, usize)
     requires { IsFlat bytes.now }
     ensures read { Reads bytes.now result.0 result.1 result.2 }
-    ensures array { (a : Array) → IsHeld a → bytes.now ≡ flat_bytes a → array_of result.0 (elements_in bytes.now result.1 result.2) ≡ a }
+    ensures array { (a : Array) → IsHeld a → bytes.now ≡ flat_bytes a →
+        array_of result.0 (elements_in bytes.now result.1 result.2) ≡ a }
 {
     if word_at(bytes, 0) == 0 {
         return (1, 0, 12);

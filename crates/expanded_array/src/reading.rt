@@ -54,7 +54,8 @@ fn read_elements(
     body: &[u8],
     count: usize,
 ) -> Result<Option<Vec<Option<i32>>>, AllocError>
-    ensures { IfOk result (λ o. MatchOption o ((es : List (Option ℤ)) → SpellsElements body.now es → ⊥) (λ v. SpellsElements body.now v.items)) }
+    ensures { IfOk result (λ o. MatchOption o
+        ((es : List (Option ℤ)) → SpellsElements body.now es → ⊥) (λ v. SpellsElements body.now v.items)) }
 {
     let mut elements = Vec::with_capacity(alloc, count)?;
     let mut rest = body;
@@ -97,7 +98,8 @@ fn strip_brace(text: &[u8]) -> Option<&[u8]>
 
 /// The lower bound that stands before the first colon, if it is a number.
 fn read_lower(bounds: &[u8]) -> Option<i32>
-    ensures { (lower : ℤ) (count : ℕ) → FitsSigned w32 lower → bounds.now ≡ explicit_bounds lower count → result ≡ Some lower }
+    ensures { (lower : ℤ) (count : ℕ) → FitsSigned w32 lower →
+        bounds.now ≡ explicit_bounds lower count → result ≡ Some lower }
 {
     let [_, rest @ ..] = bounds else {
         return None;
@@ -114,7 +116,9 @@ fn read_lower(bounds: &[u8]) -> Option<i32>
 /// The lower bound of so many elements.
 fn lower_of(alloc: Global, bounds: &[u8], count: usize) -> Result<Option<i32>, NoMemory>
     requires { count < 2 ^ 32 }
-    ensures { IfOk result (λ o. MatchOption o ((lower : ℤ) → FitsSigned w32 lower → SpellsBounds bounds.now lower count → ⊥) (λ lower. SpellsBounds bounds.now lower count)) }
+    ensures { IfOk result (λ o. MatchOption o
+        ((lower : ℤ) → FitsSigned w32 lower → SpellsBounds bounds.now lower count → ⊥)
+        (λ lower. SpellsBounds bounds.now lower count)) }
 {
     if bounds.is_empty() {
         return Ok(Some(1));
@@ -133,7 +137,8 @@ fn lower_of(alloc: Global, bounds: &[u8], count: usize) -> Result<Option<i32>, N
 
 /// The bytes before the first colon.
 fn before_colon(bytes: &[u8]) -> &[u8]
-    ensures { (front behind : List ℕ) → HasNoColon front → bytes.now ≡ front ++ (codes ":" ++ behind) → result.now ≡ front }
+    ensures { (front behind : List ℕ) → HasNoColon front →
+        bytes.now ≡ front ++ (codes ":" ++ behind) → result.now ≡ front }
 {
     for (index, byte) in bytes.iter().enumerate() {
         if *byte == b':' {
@@ -244,7 +249,8 @@ fn read_bounded(alloc: Global, text: &[u8]) -> Result<Expanded, Denied>
 /// The refusal of a text with so many elements between its braces.
 fn refusal_of(body: &[u8], count: usize) -> Denied
     requires { count < 2 ^ 32 }
-    ensures { result ≡ Denied.By (if list_all is_element (slice_split is_comma body.now) then too_big count else malformed) }
+    ensures { result ≡ Denied.By
+        (if list_all is_element (slice_split is_comma body.now) then too_big count else malformed) }
 {
     if are_elements(body) {
         too_big(count)

@@ -54,7 +54,8 @@ impl Blocks {
     pub fn is_open(&self, s: SessionNo) -> bool
         ensures open { result ≡ true → 0 < length (levels_of self.now.xacts s) }
         ensures none { result ≡ false → levels_of self.now.xacts s ≡ [] }
-        ensures idle { result ≡ false → (stamp : Stamp) (level : ℕ) → owner_of self.now.xacts stamp ≢ Some (Running s level) }
+        ensures idle { result ≡ false →
+            (stamp : Stamp) (level : ℕ) → owner_of self.now.xacts stamp ≢ Some (Running s level) }
         ensures range { (1 ≤ s) × (s ≤ 16) }
     {
         // Numbers of sessions are from 1 to 16.
@@ -95,7 +96,9 @@ impl Blocks {
     pub fn savepoint(&mut self, s: SessionNo, name: Name) -> Result<(), NoMemory>
         requires open { 0 < length (levels_of self.old.xacts s) }
         requires ready { IsReady self.old.xacts }
-        ensures { OnOk result (Becomes same s (record { levels = levels_of self.old.xacts s ++ Some name ∷ []; failed = (block_of self.old s).failed }) self.old self.new) }
+        ensures { OnOk result (Becomes same s
+            (record { levels = levels_of self.old.xacts s ++ Some name ∷ []; failed = (block_of self.old s).failed })
+            self.old self.new) }
     {
         // Numbers of sessions are from 1 to 16.
         let _ = s.number();
@@ -107,7 +110,9 @@ impl Blocks {
     pub fn release(&mut self, s: SessionNo, level: u64)
         requires low { 2 ≤ level }
         requires high { level ≤ length (levels_of self.old.xacts s) }
-        ensures { Becomes (release s level) s (record { levels = take (level - 1) (levels_of self.old.xacts s); failed = (block_of self.old s).failed }) self.old self.new }
+        ensures { Becomes (release s level) s
+            (record { levels = take (level - 1) (levels_of self.old.xacts s); failed = (block_of self.old s).failed })
+            self.old self.new }
     {
         // Numbers of sessions are from 1 to 16.
         let _ = s.number();
@@ -119,7 +124,8 @@ impl Blocks {
         requires low { 1 ≤ level }
         requires high { level ≤ length (levels_of self.old.xacts s) }
         requires ready { IsReady self.old.xacts }
-        ensures { Becomes (undo s level) s (record { levels = take level (levels_of self.old.xacts s); failed = false }) self.old self.new }
+        ensures { Becomes (undo s level) s
+            (record { levels = take level (levels_of self.old.xacts s); failed = false }) self.old self.new }
     {
         self.xacts.undo_level(s, level);
         self.failed[s.place()] = false;

@@ -235,7 +235,8 @@ fn add<K: Key, D: Drop>(
     key: K,
     entry: Entry<D>,
 ) -> Result<(), NoMemory>
-    ensures here { OnOk result (versions_in K.cmp chains.new key ≡ versions_in K.cmp chains.old key ++ version_of entry ∷ []) }
+    ensures here { OnOk result (versions_in K.cmp chains.new key
+        ≡ versions_in K.cmp chains.old key ++ version_of entry ∷ []) }
     ensures others { OnOk result ((k : K) → k ≢ key → versions_in K.cmp chains.new k ≡ versions_in K.cmp chains.old k) }
     ensures err { OnErr result ((k : K) → versions_in K.cmp chains.new k ≡ versions_in K.cmp chains.old k) }
 {

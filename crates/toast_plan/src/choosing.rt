@@ -82,7 +82,8 @@ fn first_candidate(
     requires lengths { length lengths.now ≡ length columns.now }
     requires short { AreShort lengths.now }
     requires outside { length outside.now ≡ length columns.now }
-    ensures value { option_map seen result ≡ first_of None (candidates (moves_in round) columns.now lengths.now outside.now) }
+    ensures value { option_map seen result
+        ≡ first_of None (candidates (moves_in round) columns.now lengths.now outside.now) }
     ensures place { IfSome result (λ c. c.place < length columns.now) }
 {
     let mut best = None;

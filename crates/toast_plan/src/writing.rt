@@ -61,7 +61,8 @@ fn put_outside(out: &mut [u8], at: usize, bytes: &[u8], number: u32, table: u32)
     requires short { length bytes.now ≤ VALUE_LIMIT }
     requires room { at + 19 ≤ length out.old }
     ensures end { result ≡ at + 19 }
-    ensures written { out.new ≡ with_piece at (field_form (OutsideField (record { length = length bytes.now; value = number; table = table }))) out.old }
+    ensures written { out.new ≡ with_piece at
+        (field_form (OutsideField (record { length = length bytes.now; value = number; table = table }))) out.old }
     ensures small { All (λ b. b < 256) bytes.now }
 {
     let length = bytes.len() as u32;
