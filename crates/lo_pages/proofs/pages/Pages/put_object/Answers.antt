@@ -1,0 +1,12 @@
+use Rattle.std.proofs.Common.{arith, Some, None}
+use Rattle.lo_pages.proofs.Steps.{object_put, object_left, object_goes}
+use Rattle.lo_pages.proofs.pages.Pages.put_object.Goals as goal
+
+pub returns-clause-ok : goal.returns-clause-ok
+returns-clause-ok c = object_put c.args.core.now.xacts c.args.s c.args.self.now (Some c.new.result) c.put.result c.args.oid c.put.new.self c.put.ensures.ok
+
+pub returns-clause-left : goal.returns-clause-left
+returns-clause-left c = object_left c.args.core.now.xacts c.args.s c.args.self.now (Some c.new.result) c.put.result c.args.oid c.put.new.self c.put.ensures.ok c.put.ensures.err
+
+pub returns-clause-goes : goal.returns-clause-goes
+returns-clause-goes c = object_goes c.args.core.now.xacts c.args.s c.args.self.now (Some c.new.result) c.put.new.self c.put.ensures.goes c.requires.goes

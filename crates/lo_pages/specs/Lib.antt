@@ -1,0 +1,10 @@
+pub mod Keys
+pub mod Content
+pub mod Object
+pub mod Stores
+pub mod Calls
+pub mod Held
+pub mod Rest
+pub mod Standing
+pub mod Outcome
+pub mod Steps
