@@ -47,7 +47,7 @@ module _ {P : Type 0} (value : ℕ → P → Option Content) (x : Transactions) 
   pub head_found : (o : ℕ) → head_at x v stores o ≡ after_all (after_head o) false (view v.clock v.viewer ys)
   head_found o = (stands.objects o).same.same v kept ∙ after_at (after_head o) (touches_object o) v.clock v.viewer false ys (each_head_spares o ys)
 
-  -- [Object] in each kept view
+  -- the object that its edits make, in each kept view
   pub object_reads : (o : ℕ) → IsObjectAs (object_in o (view v.clock v.viewer ys)) (head_at x v stores o) (bytes_at value x v stores o)
   object_reads o =
       alike_as (object_in o (view v.clock v.viewer ys)) (after_all (after_head o) false (view v.clock v.viewer ys)) (head_at x v stores o)
