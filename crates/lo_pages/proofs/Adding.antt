@@ -1,7 +1,11 @@
 -- The clauses of changing calls: which term of a refusal holds, and what is added where none does.
 use Rattle.std.proofs.Common.{◌≡◌, ◌≢◌, ℕ, suc, ◌+◌, ◌-◌, ◌*◌, ◌/◌, ◌<◌, ◌≤◌, ◌⊎◌, inl, inr, Bool, true, false, List, [], ◌∷◌, ◌++◌, length, Option, Some, None, refl, ap, sym, subst, ◌∙◌, arith, append-nil}
-use Rattle.std.specs.Prelude.{not, pos, nat_lt}
+use Rattle.std.proofs.Common.{Ok, Err}
+use Rattle.std.specs.Prelude.{Result, IsErrAnd, IfErr, not, pos, nat_lt}
+use Rattle.std.proofs.lemmas.Bool.Decides.{nat_tests}
 use Rattle.lo_base.specs.declared.refusal.Cause.TheVariants.{NoObject, ObjectExists, BadWrite, BadTruncate}
+use Rattle.lo_base.specs.declared.refusal.Denied.{Denied}
+use Rattle.lo_base.specs.declared.refusal.Denied.TheVariants.{NoMemory}
 use Rattle.lo_base.specs.declared.refusal.Refusal.{Refusal}
 use Rattle.lo_model.specs.Edit.{Deed, Create, Write, Cut, Unlink, Edit}
 use Rattle.lo_model.specs.Touch.{Touched, touched, busy_with}
@@ -11,7 +15,7 @@ use Rattle.row_versions.specs.Stands.{made_now}
 use Rattle.row_versions.proofs.Keeping.{whole_kept}
 use Rattle.lo_pages.specs.declared.pages.Pages.{Pages}
 use Rattle.lo_pages.specs.Calls.{own, search, Spans, NothingAbove, IsMaker, AddsEdit, Creates, Writes, Cuts, Drops, OtherObjects}
-use Rattle.lo_pages.specs.Outcome.{has_now, held_by, when, first_of, create_refused, write_refused, cut_refused, drop_refused, write_made, Adds, Refuses, largest_size}
+use Rattle.lo_pages.specs.Outcome.{has_now, held_by, when, first_of, create_refused, write_refused, cut_refused, drop_refused, write_made, Adds, Refuses, Denies, LeavesOwn, largest_size}
 use Rattle.lo_pages.specs.Standing.{GoWith, StandFor, page_value, stores_of}
 use Rattle.lo_pages.specs.Steps.{HasHolder, HeldFor, FreeSpan, OnlyObject, OnlyCut, OnlyPages, PutsObject, PutsPage, PutsCut, FreePages, WritesPages, ErasesFrom, found_now, page_sized}
 use Rattle.lo_pages.specs.Stores.{head_at, PagesStand}
@@ -19,6 +23,18 @@ use Rattle.lo_pages.proofs.Clauses.{create_adds, drop_adds, cut_adds, write_adds
 use Rattle.lo_pages.proofs.Finding.{head_object}
 use Rattle.lo_pages.proofs.Searching.{search_is_busy, search_free, spans_whole, spans_from, spans_write}
 use Rattle.lo_pages.proofs.Standing.{reads_as}
+
+-- tests of sizes
+pub is_large : (m n : ℕ) → m < n → nat_lt m n ≡ true
+is_large m n less = grind (arith, nat_tests, less)
+
+pub is_small : (m n : ℕ) → n ≤ m → nat_lt m n ≡ false
+is_small m n low = grind (arith, nat_tests, low)
+
+-- a call that found no memory and has left only versions of its own
+pub denied_nothing : {A : Type 0} (x : Transactions) (s : ℕ) (refused : List (Edit Deed) → Option Refusal) (old new : Pages) (r : Result A Denied) → IsErrAnd r (λ (d : Denied). d ≡ NoMemory) → LeavesOwn x s old new → IfErr r (Denies x s refused old new)
+denied_nothing x s refused old new (Ok a) is left = tt
+denied_nothing x s refused old new (Err d) is left = subst (λ (e : Denied). Denies x s refused old new e) (sym is) left
 
 -- what a search that finds nobody leaves free
 module _ (x : Transactions) (s o : ℕ) (old : Pages) where
