@@ -18,4 +18,5 @@ pub mod Steps
 pub mod Holding
 pub mod Looping
 pub mod Adding
+pub mod Vacuuming
 mod Examples
