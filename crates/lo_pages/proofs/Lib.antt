@@ -19,4 +19,5 @@ pub mod Holding
 pub mod Looping
 pub mod Adding
 pub mod Vacuuming
+pub mod Blocks
 mod Examples
