@@ -1,6 +1,7 @@
 // Large objects in three stores of versions: what a view reads of them, and which numbers are free. `change` has the calls
 // that change objects, and `span` the search for other sessions.
 ghost use Rattle.std.specs.Prelude.{◌≡◌, ◌≤◌, ◌*◌, ℕ, ◌+◌, ◌++◌, drop, length, List, [], IfOk, IfSome, MatchOption};
+ghost use Rattle.std.specs.List.{list_any};
 ghost use Rattle.lo_model.specs.declared.viewer.Viewer.{Viewer};
 ghost use Rattle.lo_model.specs.Descriptor.{bytes_or_none};
 ghost use Rattle.lo_model.specs.Edit.{Deed, Edit};
@@ -12,7 +13,7 @@ ghost use Rattle.xact_core.specs.Transactions.{Transactions};
 ghost use Rattle.row_versions.specs.Looks.{IsLook};
 ghost use Rattle.lo_pages.specs.Held.{LeavesHeld};
 ghost use Rattle.lo_pages.specs.Object.{bytes_from};
-ghost use Rattle.lo_pages.specs.Outcome.{piece_at, has_bytes, NoneFrom, LeastFrom};
+ghost use Rattle.lo_pages.specs.Outcome.{piece_at, is_byte, has_bytes, NoneFrom, LeastFrom};
 ghost use Rattle.lo_pages.specs.Standing.{GoWith, StandFor, ReadsAs, has_page, last_number, page_value, stores_of};
 ghost use Rattle.lo_pages.specs.Stores.{open_at, head_at, bytes_at};
 
@@ -169,11 +170,16 @@ impl Pages {
     {
         let mut from = from;
         loop {
-            let number = self.next_page(core, snap, oid, from)?;
-            if self.page(core, snap, oid, number).iter().any(|byte| *byte != 0) {
+            let Some(number) = self.next_page(core, snap, oid, from) else {
+                return None;
+            };
+            if any_byte(self.page(core, snap, oid, number)) {
                 return Some(number);
             }
-            from = number.checked_add(1)?;
+            let Some(next) = number.checked_add(1) else {
+                return None;
+            };
+            from = next;
         }
     }
 
@@ -209,6 +215,13 @@ impl Pages {
         self.pages.vacuum(core);
         self.cuts.vacuum(core);
     }
+}
+
+/// Whether one of the bytes is not 0.
+fn any_byte(page: &[u8]) -> bool
+    ensures { result ≡ list_any is_byte page.now }
+{
+    page.iter().any(|byte| *byte != 0)
 }
 
 /// Fills `out` with the bytes of a page from an offset on, and with zeros behind its end.
