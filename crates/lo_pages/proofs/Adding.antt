@@ -1,7 +1,7 @@
 -- The clauses of changing calls: which term of a refusal holds, and what is added where none does.
-use Rattle.std.proofs.Common.{◌≡◌, ◌≢◌, ℕ, suc, ◌+◌, ◌-◌, ◌*◌, ◌/◌, ◌<◌, ◌≤◌, ◌⊎◌, inl, inr, Bool, true, false, List, [], ◌∷◌, ◌++◌, length, Option, Some, None, refl, ap, sym, subst, ◌∙◌, arith, append-nil}
+use Rattle.std.proofs.Common.{◌≡◌, ◌≢◌, ℕ, suc, ◌+◌, ◌-◌, ◌*◌, ◌/◌, ◌<◌, ◌≤◌, true, false, List, [], ◌∷◌, length, Option, Some, None, refl, ap, sym, subst, ◌∙◌, arith, append-nil}
 use Rattle.std.proofs.Common.{Ok, Err}
-use Rattle.std.specs.Prelude.{Result, IsErrAnd, IfErr, not, pos, nat_lt}
+use Rattle.std.specs.Prelude.{Result, IsErrAnd, IfErr, pos, nat_lt}
 use Rattle.std.proofs.lemmas.Bool.Decides.{nat_tests}
 use Rattle.lo_base.specs.declared.refusal.Cause.TheVariants.{NoObject, ObjectExists, BadWrite, BadTruncate}
 use Rattle.lo_base.specs.declared.refusal.Denied.{Denied}
@@ -15,9 +15,9 @@ use Rattle.row_versions.specs.Stands.{made_now}
 use Rattle.row_versions.proofs.Keeping.{whole_kept}
 use Rattle.lo_pages.specs.declared.pages.Pages.{Pages}
 use Rattle.lo_pages.specs.Calls.{own, search, Spans, NothingAbove, IsMaker, AddsEdit, Creates, Writes, Cuts, Drops, OtherObjects}
-use Rattle.lo_pages.specs.Outcome.{has_now, held_by, when, first_of, create_refused, write_refused, cut_refused, drop_refused, write_made, Adds, Refuses, Denies, LeavesOwn, largest_size}
+use Rattle.lo_pages.specs.Outcome.{has_now, held_by, first_of, create_refused, write_refused, cut_refused, drop_refused, write_made, Adds, Refuses, Denies, LeavesOwn, largest_size}
 use Rattle.lo_pages.specs.Standing.{GoWith, StandFor, page_value, stores_of}
-use Rattle.lo_pages.specs.Steps.{HasHolder, HeldFor, FreeSpan, OnlyObject, OnlyCut, OnlyPages, PutsObject, PutsPage, PutsCut, FreePages, WritesPages, ErasesFrom, found_now, page_sized}
+use Rattle.lo_pages.specs.Steps.{HasHolder, HeldFor, FreeSpan, OnlyObject, PutsObject, PutsPage, PutsCut, FreePages, WritesPages, ErasesFrom, found_now, page_sized}
 use Rattle.lo_pages.specs.Stores.{head_at, PagesStand}
 use Rattle.lo_pages.proofs.Clauses.{create_adds, drop_adds, cut_adds, write_adds}
 use Rattle.lo_pages.proofs.Finding.{head_object}
@@ -215,4 +215,3 @@ module _ (x : Transactions) (s o : ℕ) (old : Pages) (one : 1 ≤ s) (some : 0 
 
       adds : AddsEdit page_value x s (Cut o size) (stores_of old) (stores_of new)
       adds = cut_adds page_value x s o (stores_of old) (stores_of new) size last (maker whole) order above (searched x s o old _ _ _ none) cuts
-

@@ -1,6 +1,5 @@
 -- Stores without versions, as `new` makes them: they stand for no edits, and go with all transactions.
-use Rattle.std.proofs.Common.{◌≡◌, ℕ, zero, suc, ◌<◌, Bool, false, List, [], Option, None, refl, sym, subst}
-use Rattle.std.specs.Prelude.{◌||◌}
+use Rattle.std.proofs.Common.{◌≡◌, ℕ, zero, suc, false, List, [], None, refl, sym, subst}
 use Rattle.std.specs.Ordering.{nat_cmp}
 use Rattle.lo_model.specs.declared.viewer.Viewer.{Viewer}
 use Rattle.lo_model.specs.Edit.{Deed}
@@ -12,10 +11,10 @@ use Rattle.row_versions.proofs.Laws.{stands_none}
 use Rattle.lo_pages.specs.declared.page_key.PageKey.{PageKey}
 use Rattle.lo_pages.specs.declared.pages.Pages.{Pages}
 use Rattle.lo_pages.specs.Calls.{NothingAbove}
-use Rattle.lo_pages.specs.Content.{Content, after_page, after_head, after_cut}
+use Rattle.lo_pages.specs.Content.{after_page, after_head, after_cut}
 use Rattle.lo_pages.specs.Keys.{key_cmp, page_key}
 use Rattle.lo_pages.specs.Standing.{GoWith, StandFor, last_number, page_value, stores_of}
-use Rattle.lo_pages.specs.Stores.{Stores, there, no_value, cut_open, open_at, PagesStand}
+use Rattle.lo_pages.specs.Stores.{there, no_value, cut_open, open_at, PagesStand}
 
 none_at : {D S : Type 0} (x : Transactions) (value : ℕ → D → S) (after : S → ℕ → Deed → S) (first : S) (vs : List (Version D)) → vs ≡ [] → Stands x value after first vs []
 none_at {D} x value after first vs empty = subst (λ (us : List (Version D)). Stands x value after first us []) (sym empty) (stands_none value after first x)

@@ -22,7 +22,7 @@ use Rattle.lo_pages.specs.declared.pages.Pages.{Pages}
 use Rattle.lo_pages.specs.Content.{Content}
 use Rattle.lo_pages.specs.Keys.{key_cmp, page_key}
 use Rattle.lo_pages.specs.declared.page_key.PageKey.{PageKey}
-use Rattle.lo_pages.specs.Object.{IsObject, IsObjectAs}
+use Rattle.lo_pages.specs.Object.{IsObjectAs}
 use Rattle.lo_pages.specs.Outcome.{NoneFrom, LeastFrom}
 use Rattle.lo_pages.specs.Standing.{ReadsAs, has_page, last_number, page_value, stores_of}
 use Rattle.lo_pages.specs.Stores.{there, content_bytes, head_at, bytes_at}

@@ -1,7 +1,7 @@
 -- The loops over the pages of an object, in the words of contracts.
-use Rattle.std.proofs.Common.{◌≡◌, ◌≢◌, ℕ, ◌+◌, ◌-◌, ◌*◌, ◌/◌, ◌<◌, ◌≤◌, ◌⊎◌, inl, inr, Bool, true, false, List, length, Option, Some, None, refl, ap, sym, subst, ◌∙◌, arith}
+use Rattle.std.proofs.Common.{◌≡◌, ℕ, ◌+◌, ◌-◌, ◌*◌, ◌/◌, ◌<◌, ◌≤◌, Bool, true, false, List, length, Option, Some, None, refl, ap, sym, ◌∙◌, arith}
 use Rattle.std.specs.Prelude.{is_some}
-use Rattle.std.proofs.lemmas.Bool.{false≢true, cases_lt}
+use Rattle.std.proofs.lemmas.Bool.{false≢true}
 use Rattle.std.proofs.lemmas.Bool.Decides.{nat_tests}
 use Rattle.xact_core.specs.Transactions.{Transactions}
 use Rattle.row_versions.specs.Stands.{standing, lowest_other}
@@ -11,7 +11,7 @@ use Rattle.lo_pages.specs.Content.{Content, is_written}
 use Rattle.lo_pages.specs.Outcome.{LeavesOwn, NoneFrom, LeastFrom}
 use Rattle.lo_pages.specs.Standing.{GoWith, has_page, last_number, page_value, stores_of}
 use Rattle.lo_pages.specs.Steps.{found_now, page_written, OnlyPages, PutsPage, FreePages, Writing, Erasing, WritesPages, ErasesFrom}
-use Rattle.lo_pages.proofs.Clauses.{written_span, span_written_in}
+use Rattle.lo_pages.proofs.Clauses.{written_span}
 use Rattle.lo_pages.proofs.Loops.{write_starts, write_step, write_ends, erase_starts, erase_step, erase_ends}
 use Rattle.lo_pages.proofs.Steps.{left_none, left_more}
 

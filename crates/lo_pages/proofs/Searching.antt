@@ -5,8 +5,7 @@ use Rattle.std.proofs.lemmas.Bool.{false≢true, cases_lt, cases_eq, or_cases, o
 use Rattle.std.proofs.lemmas.Bool.Decides.{nat_tests}
 use Rattle.lo_model.specs.declared.viewer.Viewer.{Viewer}
 use Rattle.lo_model.specs.declared.viewer.Viewer.TheVariants.{Whole}
-use Rattle.lo_base.specs.declared.value.Value.{Value}
-use Rattle.lo_model.specs.Edit.{Deed, Create, Write, Cut, Unlink, Put, Delete, Edit}
+use Rattle.lo_model.specs.Edit.{Deed, Write, Edit}
 use Rattle.lo_model.specs.Touch.{Touched, Pages, PagesFrom, WholeObject, Part, Page, Object, RowAt, covers, touched, pages_of, meets, SharesPart, other_session, lower_of, busy_with}
 use Rattle.lo_model.proofs.TouchLaws.{met, shared}
 use Rattle.xact_core.specs.Transactions.{Transactions}

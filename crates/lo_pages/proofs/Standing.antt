@@ -1,5 +1,5 @@
 -- Pages through each call of the transactions, in the words of contracts.
-use Rattle.std.proofs.Common.{◌≡◌, ℕ, ℤ, ◌≤◌, Bool, true, false, List, [], ◌∷◌, ◌++◌, length, take, Option, Some, None, refl, ap, sym, subst, ◌∙◌, arith}
+use Rattle.std.proofs.Common.{◌≡◌, ℕ, ℤ, false, List, [], ◌∷◌, ◌++◌, length, Option, None, ap, sym, subst, ◌∙◌}
 use Rattle.std.specs.Prelude.{option_map}
 use Rattle.std.specs.Ordering.{nat_cmp}
 use Rattle.std.specs.Cmp.{IsTotalOrder, nat_cmp_total}
@@ -26,13 +26,13 @@ use Rattle.row_versions.proofs.Laws.{unseen_reads, restored}
 use Rattle.lo_pages.specs.declared.page_key.PageKey.{PageKey}
 use Rattle.lo_pages.specs.declared.pages.Pages.{Pages}
 use Rattle.lo_pages.specs.Calls.{IsMaker}
-use Rattle.lo_pages.specs.Content.{Content, at_page}
+use Rattle.lo_pages.specs.Content.{at_page}
 use Rattle.lo_pages.specs.Held.{HasFirst}
 use Rattle.lo_pages.specs.Keys.{key_cmp, exact_keys}
 use Rattle.lo_pages.specs.Object.{IsObjectAs}
 use Rattle.lo_pages.specs.Outcome.{LeavesOwn, StandsAlike}
 use Rattle.lo_pages.specs.Standing.{GoWith, StandFor, ReadsAs, page_value, stores_of}
-use Rattle.lo_pages.specs.Stores.{Stores, there, head_at, page_at, bytes_at, content_bytes}
+use Rattle.lo_pages.specs.Stores.{there, head_at, bytes_at, content_bytes}
 use Rattle.lo_pages.proofs.Calling.{pages_put, pages_deleted}
 use Rattle.lo_pages.proofs.Counting.{page_absent}
 use Rattle.lo_pages.proofs.Reading.{alike_as, object_reads}

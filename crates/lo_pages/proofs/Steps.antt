@@ -1,22 +1,21 @@
 -- One version more at one key, and what that leaves of the rest.
-use Rattle.std.proofs.Common.{◌≡◌, ◌≢◌, ℕ, ◌<◌, ◌≤◌, ◌⊎◌, inl, inr, Bool, true, false, List, [], ◌∷◌, ◌++◌, length, Option, Some, None, refl, ap, sym, subst, ◌∙◌, arith, append-nil, append_assoc}
+use Rattle.std.proofs.Common.{◌≡◌, ◌≢◌, ℕ, ◌≤◌, ◌⊎◌, inl, inr, List, [], ◌∷◌, ◌++◌, Option, refl, ap, sym, subst, ◌∙◌, arith, append-nil, append_assoc}
 use Rattle.std.specs.Prelude.{Result, OnOk, OnErr}
 use Rattle.std.specs.Prelude.{Ok, Err}
 use Rattle.std.specs.Ordering.{nat_cmp}
 use Rattle.std.specs.declared.cmp.Ordering.{Ordering}
 use Rattle.std.proofs.lemmas.Bool.{cases_eq}
 use Rattle.xact_core.specs.Transactions.{Transactions}
-use Rattle.row_versions.specs.Stack.{Each}
 use Rattle.row_versions.specs.Stands.{Version, AddsOwn, IsNew}
 use Rattle.row_versions.specs.Store.{versions_at, AddsVersion, SameVersions, GoesWith}
 use Rattle.row_versions.specs.declared.store.Store.{Store}
 use Rattle.lo_pages.specs.declared.page_key.PageKey.{PageKey}
 use Rattle.lo_pages.specs.declared.pages.Pages.{Pages}
-use Rattle.lo_pages.specs.Calls.{PutsOne, NothingAbove}
+use Rattle.lo_pages.specs.Calls.{PutsOne}
 use Rattle.lo_pages.specs.Keys.{key_cmp, page_key}
 use Rattle.lo_pages.specs.Outcome.{LeavesOwn}
-use Rattle.lo_pages.specs.Standing.{GoWith, last_number, page_value, stores_of}
-use Rattle.lo_pages.specs.Steps.{OnlyObject, OnlyCut, OnlyPages, PutsObject, PutsPage, PutsCut}
+use Rattle.lo_pages.specs.Standing.{GoWith, last_number, page_value}
+use Rattle.lo_pages.specs.Steps.{PutsObject, PutsPage, PutsCut}
 use Rattle.lo_pages.specs.Stores.{there, no_value}
 use Rattle.lo_pages.proofs.Keys.{keys_apart}
 use Rattle.lo_pages.proofs.Rest.{each_joined}
@@ -32,18 +31,22 @@ own_more {D} x s old mid new first second = record {
 }
 
 pub left_none : (x : Transactions) (s : ℕ) (store : Pages) → LeavesOwn x s store store
-left_none x s store = record { adds = record {
-  objects = λ o. own_same x s _ _ refl;
-  pages = λ o b. own_same x s _ _ refl;
-  cuts = λ o b. own_same x s _ _ refl;
-} }
+left_none x s store = record {
+  adds = record {
+    objects = λ o. own_same x s _ _ refl;
+    pages = λ o b. own_same x s _ _ refl;
+    cuts = λ o b. own_same x s _ _ refl;
+  };
+}
 
 pub left_more : (x : Transactions) (s : ℕ) (old mid new : Pages) → LeavesOwn x s old mid → LeavesOwn x s mid new → LeavesOwn x s old new
-left_more x s old mid new first second = record { adds = record {
-  objects = λ o. own_more x s _ _ _ (first.adds.objects o) (second.adds.objects o);
-  pages = λ o b. own_more x s _ _ _ (first.adds.pages o b) (second.adds.pages o b);
-  cuts = λ o b. own_more x s _ _ _ (first.adds.cuts o b) (second.adds.cuts o b);
-} }
+left_more x s old mid new first second = record {
+  adds = record {
+    objects = λ o. own_more x s _ _ _ (first.adds.objects o) (second.adds.objects o);
+    pages = λ o b. own_more x s _ _ _ (first.adds.pages o b) (second.adds.pages o b);
+    cuts = λ o b. own_more x s _ _ _ (first.adds.cuts o b) (second.adds.cuts o b);
+  };
+}
 
 -- whether a key is the one that changed
 same_key : (p b o j : ℕ) → ((p ≡ o) × (b ≡ j)) ⊎ (p ≡ o → b ≡ j → ⊥)
@@ -83,11 +86,13 @@ module _ (x : Transactions) (s : ℕ) (old : Pages) (deed : Option (List ℕ)) w
   }
 
   pub page_left : {A E : Type 0} (r : Result A E) (o j : ℕ) (q : Store PageKey (List ℕ)) → OnOk r (AddsVersion key_cmp x s (page_key o j) deed old.pages q) → OnErr r (SameVersions key_cmp old.pages q) → LeavesOwn x s old (record old { pages = q })
-  page_left r o j q ok err = record { adds = record {
-    objects = λ p. own_same x s _ _ refl;
-    pages = λ p b. put_own key_cmp x s (page_key o j) deed old.pages q r (page_key p b) (apart_from o j p b (same_key p b o j)) ok err;
-    cuts = λ p b. own_same x s _ _ refl;
-  } }
+  page_left r o j q ok err = record {
+    adds = record {
+      objects = λ p. own_same x s _ _ refl;
+      pages = λ p b. put_own key_cmp x s (page_key o j) deed old.pages q r (page_key p b) (apart_from o j p b (same_key p b o j)) ok err;
+      cuts = λ p b. own_same x s _ _ refl;
+    };
+  }
 
   key_still : {A E : Type 0} (r : Result A E) (was now : Store PageKey (List ℕ)) (o j p b : ℕ) → (p ≡ o → b ≡ j → ⊥) → OnOk r (AddsVersion key_cmp x s (page_key o j) deed was now) → OnErr r (SameVersions key_cmp was now) → versions_at key_cmp now (page_key p b) ≡ versions_at key_cmp was (page_key p b)
   key_still (Ok u) was now o j p b apart ok err = ok.others (page_key p b) (keys_apart o j p b apart)
@@ -114,11 +119,13 @@ module _ (x : Transactions) (s : ℕ) (old : Pages) (deed : Option (List ℕ)) w
   }
 
   pub cut_left : {A E : Type 0} (r : Result A E) (o j : ℕ) (q : Store PageKey (List ℕ)) → OnOk r (AddsVersion key_cmp x s (page_key o j) deed old.cuts q) → OnErr r (SameVersions key_cmp old.cuts q) → LeavesOwn x s old (record old { cuts = q })
-  cut_left r o j q ok err = record { adds = record {
-    objects = λ p. own_same x s _ _ refl;
-    pages = λ p b. own_same x s _ _ refl;
-    cuts = λ p b. put_own key_cmp x s (page_key o j) deed old.cuts q r (page_key p b) (apart_from o j p b (same_key p b o j)) ok err;
-  } }
+  cut_left r o j q ok err = record {
+    adds = record {
+      objects = λ p. own_same x s _ _ refl;
+      pages = λ p b. own_same x s _ _ refl;
+      cuts = λ p b. put_own key_cmp x s (page_key o j) deed old.cuts q r (page_key p b) (apart_from o j p b (same_key p b o j)) ok err;
+    };
+  }
 
   pub cut_goes : {A E : Type 0} (r : Result A E) (o j : ℕ) (q : Store PageKey (List ℕ)) → j ≤ last_number → OnOk r (AddsVersion key_cmp x s (page_key o j) deed old.cuts q) → OnErr r (SameVersions key_cmp old.cuts q) → GoesWith key_cmp x q → GoWith x old → GoWith x (record old { cuts = q })
   cut_goes r o j q small ok err goes go = record {
@@ -141,11 +148,13 @@ module _ (x : Transactions) (s : ℕ) (old : Pages) (deed : Option (List ℕ)) w
   }
 
   pub object_left : {A E : Type 0} (r : Result A E) (o : ℕ) (q : Store ℕ (List ℕ)) → OnOk r (AddsVersion nat_cmp x s o deed old.objects q) → OnErr r (SameVersions nat_cmp old.objects q) → LeavesOwn x s old (record old { objects = q })
-  object_left r o q ok err = record { adds = record {
-    objects = λ p. put_own nat_cmp x s o deed old.objects q r p (cases_eq p o) ok err;
-    pages = λ p b. own_same x s _ _ refl;
-    cuts = λ p b. own_same x s _ _ refl;
-  } }
+  object_left r o q ok err = record {
+    adds = record {
+      objects = λ p. put_own nat_cmp x s o deed old.objects q r p (cases_eq p o) ok err;
+      pages = λ p b. own_same x s _ _ refl;
+      cuts = λ p b. own_same x s _ _ refl;
+    };
+  }
 
   pub object_goes : (q : Store ℕ (List ℕ)) → GoesWith nat_cmp x q → GoWith x old → GoWith x (record old { objects = q })
   object_goes q goes go = record { objects = goes; pages = go.pages; cuts = go.cuts; above = λ p. record { pages = (go.above p).pages; cuts = (go.above p).cuts } }

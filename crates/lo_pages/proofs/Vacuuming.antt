@@ -1,6 +1,6 @@
 -- Each of the three stores is vacuumed key by key, and what follows for pages.
-use Rattle.std.proofs.Common.{◌≡◌, ℕ, zero, suc, ◌<◌, Bool, true, false, List, [], Option, Some, None, refl, ap, sym, subst, ◌∙◌}
-use Rattle.std.specs.Prelude.{◌||◌, is_some, option_map}
+use Rattle.std.proofs.Common.{◌≡◌, ℕ, zero, suc, true, false, List, [], Option, Some, None, refl, ap, sym, subst, ◌∙◌}
+use Rattle.std.specs.Prelude.{is_some}
 use Rattle.std.specs.Ordering.{nat_cmp}
 use Rattle.std.proofs.lemmas.Bool.{false≢true}
 use Rattle.lo_model.specs.declared.viewer.Viewer.{Viewer}
@@ -12,7 +12,7 @@ use Rattle.row_versions.specs.Count.{clocks_left}
 use Rattle.row_versions.specs.Found.{is_erasure}
 use Rattle.row_versions.specs.Looks.{IsLook}
 use Rattle.row_versions.specs.Search.{finds_at}
-use Rattle.row_versions.specs.Stands.{Version, standing, vacuumed, Stands, Erases}
+use Rattle.row_versions.specs.Stands.{Version, standing, vacuumed, Stands}
 use Rattle.row_versions.specs.Store.{GoesWith, edits_at}
 use Rattle.row_versions.specs.Vacuum.{any_open}
 use Rattle.lo_pages.specs.declared.page_key.PageKey.{PageKey}

@@ -1,5 +1,5 @@
 -- What calls answer: the terms of refusals and their order, what a changing call does to pages, and what a search finds.
-use Rattle.std.specs.Prelude.{◌≡◌, ◌≤◌, ℕ, ℤ, pos, zero, suc, ◌+◌, ◌*◌, Bool, true, false, not, ◌==◌, nat_lt, List, [], ◌∷◌, ◌++◌, length, take, drop, Option, Some, None, if◌then◌else◌}
+use Rattle.std.specs.Prelude.{◌≡◌, ◌≤◌, ℕ, pos, ◌+◌, ◌*◌, Bool, true, false, not, ◌==◌, nat_lt, List, [], ◌∷◌, ◌++◌, length, take, drop, Option, Some, None, if◌then◌else◌}
 use Rattle.std.specs.List.{list_any}
 use Rattle.lo_base.specs.declared.refusal.Cause.{Cause}
 use Rattle.lo_base.specs.declared.refusal.Cause.TheVariants.{NoObject, ObjectExists, BadWrite, BadTruncate, Busy}
@@ -9,8 +9,7 @@ use Rattle.lo_base.specs.declared.refusal.Refusal.{Refusal}
 use Rattle.lo_model.specs.Edit.{Deed, Create, Write, Cut, Unlink, Edit}
 use Rattle.lo_model.specs.Listing.{has_object}
 use Rattle.lo_model.specs.Touch.{page_bytes, touched, busy_with}
-use Rattle.lo_model.specs.View.{current_view, view}
-use Rattle.xact_core.specs.declared.snapshot.Snapshot.{Snapshot}
+use Rattle.lo_model.specs.View.{current_view}
 use Rattle.xact_core.specs.Transactions.{Transactions}
 use Rattle.row_versions.specs.Stands.{made_now, standing}
 use Rattle.lo_pages.specs.declared.pages.Pages.{Pages}

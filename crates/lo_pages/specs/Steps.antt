@@ -9,8 +9,8 @@ use Rattle.lo_pages.specs.declared.pages.Pages.{Pages}
 use Rattle.lo_pages.specs.Calls.{own, search, PutsOne, Next, WrittenTo, ErasedTo}
 use Rattle.lo_pages.specs.Content.{Content, bytes_of, piece_of, is_written}
 use Rattle.lo_pages.specs.Outcome.{LeavesOwn}
-use Rattle.lo_pages.specs.Standing.{GoWith, last_number, page_value, stores_of}
-use Rattle.lo_pages.specs.Stores.{Stores, there, no_value, page_at}
+use Rattle.lo_pages.specs.Standing.{GoWith, page_value, stores_of}
+use Rattle.lo_pages.specs.Stores.{there, no_value, page_at}
 
 -- what a session finds of a page now
 abbrev pub found_now : Transactions → (session : ℕ) → Pages → (oid number : ℕ) → Option Content

@@ -26,8 +26,10 @@ impl Pages {
         requires open { 0 < length (levels_of core.old.xacts s) }
         requires whole { HoldsWholeViews core.old.xacts }
         requires goes { GoWith core.old.xacts self.old }
-        ensures ok { OnOk result (Adds core.old.xacts (create_refused core.old.xacts s oid) (made_now core.old.xacts s (Create oid) ∷ []) self.old self.new) }
-        ensures err { IfErr result (Denies core.old.xacts s (create_refused core.old.xacts s oid) self.old self.new) }
+        ensures ok { OnOk result (Adds core.old.xacts (create_refused core.old.xacts s oid)
+            (made_now core.old.xacts s (Create oid) ∷ []) self.old self.new) }
+        ensures err { IfErr result (Denies core.old.xacts s
+            (create_refused core.old.xacts s oid) self.old self.new) }
         ensures goes { GoWith core.old.xacts self.new }
         ensures core { core.new ≡ core.old }
     {
@@ -55,8 +57,11 @@ impl Pages {
         requires open { 0 < length (levels_of core.old.xacts s) }
         requires whole { HoldsWholeViews core.old.xacts }
         requires goes { GoWith core.old.xacts self.old }
-        ensures ok { OnOk result (Adds core.old.xacts (write_refused core.old.xacts s oid at bytes.now) (write_made core.old.xacts s oid at bytes.now) self.old self.new) }
-        ensures err { IfErr result (Denies core.old.xacts s (write_refused core.old.xacts s oid at bytes.now) self.old self.new) }
+        ensures ok { OnOk result (Adds core.old.xacts
+            (write_refused core.old.xacts s oid at bytes.now)
+            (write_made core.old.xacts s oid at bytes.now) self.old self.new) }
+        ensures err { IfErr result (Denies core.old.xacts s
+            (write_refused core.old.xacts s oid at bytes.now) self.old self.new) }
         ensures goes { GoWith core.old.xacts self.new }
         ensures core { core.new ≡ core.old }
     {
@@ -88,8 +93,10 @@ impl Pages {
         requires whole { HoldsWholeViews core.old.xacts }
         requires goes { GoWith core.old.xacts self.old }
         requires small { to < 2 ^ 63 }
-        ensures ok { OnOk result (Adds core.old.xacts (cut_refused core.old.xacts s oid to) (made_now core.old.xacts s (Cut oid to) ∷ []) self.old self.new) }
-        ensures err { IfErr result (Denies core.old.xacts s (cut_refused core.old.xacts s oid to) self.old self.new) }
+        ensures ok { OnOk result (Adds core.old.xacts (cut_refused core.old.xacts s oid to)
+            (made_now core.old.xacts s (Cut oid to) ∷ []) self.old self.new) }
+        ensures err { IfErr result (Denies core.old.xacts s
+            (cut_refused core.old.xacts s oid to) self.old self.new) }
         ensures goes { GoWith core.old.xacts self.new }
         ensures core { core.new ≡ core.old }
     {
@@ -115,8 +122,10 @@ impl Pages {
         requires open { 0 < length (levels_of core.old.xacts s) }
         requires whole { HoldsWholeViews core.old.xacts }
         requires goes { GoWith core.old.xacts self.old }
-        ensures ok { OnOk result (Adds core.old.xacts (drop_refused core.old.xacts s oid) (made_now core.old.xacts s (Unlink oid) ∷ []) self.old self.new) }
-        ensures err { IfErr result (Denies core.old.xacts s (drop_refused core.old.xacts s oid) self.old self.new) }
+        ensures ok { OnOk result (Adds core.old.xacts (drop_refused core.old.xacts s oid)
+            (made_now core.old.xacts s (Unlink oid) ∷ []) self.old self.new) }
+        ensures err { IfErr result (Denies core.old.xacts s
+            (drop_refused core.old.xacts s oid) self.old self.new) }
         ensures goes { GoWith core.old.xacts self.new }
         ensures core { core.new ≡ core.old }
     {
@@ -134,7 +143,8 @@ impl Pages {
     /// Whether the session's current view has the object.
     fn is_there(&self, core: &Core, s: SessionNo, oid: Oid) -> bool
         requires open { 0 < length (levels_of core.now.xacts s) }
-        ensures found { result ≡ head_at core.now.xacts (own core.now.xacts s) (stores_of self.now) oid }
+        ensures found { result ≡ head_at core.now.xacts (own core.now.xacts s)
+            (stores_of self.now) oid }
         ensures session { 1 ≤ s }
     {
         self.finds(core, &core.xacts.snapshot(s), oid)
@@ -176,7 +186,8 @@ impl Pages {
         requires goes { GoWith core.old.xacts self.old }
         requires some { 0 < length bytes.now }
         requires small { at + length bytes.now ≤ LARGEST_SIZE }
-        requires free { FreePages core.old.xacts s oid (at / 2048) ((at + length bytes.now - 1) / 2048) self.old }
+        requires free { FreePages core.old.xacts s oid (at / 2048)
+            ((at + length bytes.now - 1) / 2048) self.old }
         ensures ok { OnOk result (WritesPages core.old.xacts s oid at bytes.now self.old self.new) }
         ensures left { LeavesOwn core.old.xacts s self.old self.new }
         ensures goes { GoWith core.old.xacts self.new }
@@ -204,8 +215,11 @@ impl Pages {
         requires goes { GoWith core.old.xacts self.old }
         requires small { at + length bytes.now ≤ LARGEST_SIZE }
         requires within { is_written number at (length bytes.now) ≡ true }
-        requires free { lowest_other s (standing core.old.xacts ((stores_of self.old).pages oid number)) ≡ None }
-        ensures ok { OnOk result (PutsPage core.old.xacts s oid number (page_written core.old.xacts number at bytes.now (found_now core.old.xacts s self.old oid number)) self.old self.new) }
+        requires free { lowest_other s (standing core.old.xacts
+            ((stores_of self.old).pages oid number)) ≡ None }
+        ensures ok { OnOk result (PutsPage core.old.xacts s oid number
+            (page_written core.old.xacts number at bytes.now
+            (found_now core.old.xacts s self.old oid number)) self.old self.new) }
         ensures left { LeavesOwn core.old.xacts s self.old self.new }
         ensures goes { GoWith core.old.xacts self.new }
         ensures core { core.new ≡ core.old }
@@ -228,8 +242,11 @@ impl Pages {
     ) -> Result<(), NoMemory>
         requires open { 0 < length (levels_of core.old.xacts s) }
         requires goes { GoWith core.old.xacts self.old }
-        requires free { lowest_other s (standing core.old.xacts ((stores_of self.old).pages oid number)) ≡ None }
-        ensures ok { OnOk result (PutsPage core.old.xacts s oid number (page_sized core.old.xacts size (found_now core.old.xacts s self.old oid number)) self.old self.new) }
+        requires free { lowest_other s (standing core.old.xacts
+            ((stores_of self.old).pages oid number)) ≡ None }
+        ensures ok { OnOk result (PutsPage core.old.xacts s oid number
+            (page_sized core.old.xacts size
+            (found_now core.old.xacts s self.old oid number)) self.old self.new) }
         ensures left { LeavesOwn core.old.xacts s self.old self.new }
         ensures goes { GoWith core.old.xacts self.new }
         ensures core { core.new ≡ core.old }
@@ -278,8 +295,10 @@ impl Pages {
     ) -> Result<(), NoMemory>
         requires open { 0 < length (levels_of core.old.xacts s) }
         requires goes { GoWith core.old.xacts self.old }
-        requires free { lowest_other s (standing core.old.xacts ((stores_of self.old).pages oid number)) ≡ None }
-        ensures ok { OnOk result (PutsPage core.old.xacts s oid number (made_page core.old.xacts page) self.old self.new) }
+        requires free { lowest_other s (standing core.old.xacts
+            ((stores_of self.old).pages oid number)) ≡ None }
+        ensures ok { OnOk result (PutsPage core.old.xacts s oid number
+            (made_page core.old.xacts page) self.old self.new) }
         ensures left { LeavesOwn core.old.xacts s self.old self.new }
         ensures goes { GoWith core.old.xacts self.new }
         ensures core { core.new ≡ core.old }
@@ -287,10 +306,17 @@ impl Pages {
         self.pages.put(core, s, PageKey { oid, number }, page)
     }
 
-    fn erase_page(&mut self, core: &Core, s: SessionNo, oid: Oid, number: u32) -> Result<(), NoMemory>
+    fn erase_page(
+        &mut self,
+        core: &Core,
+        s: SessionNo,
+        oid: Oid,
+        number: u32,
+    ) -> Result<(), NoMemory>
         requires open { 0 < length (levels_of core.now.xacts s) }
         requires goes { GoWith core.now.xacts self.old }
-        requires free { lowest_other s (standing core.now.xacts ((stores_of self.old).pages oid number)) ≡ None }
+        requires free { lowest_other s (standing core.now.xacts
+            ((stores_of self.old).pages oid number)) ≡ None }
         ensures ok { OnOk result (PutsPage core.now.xacts s oid number None self.old self.new) }
         ensures left { LeavesOwn core.now.xacts s self.old self.new }
         ensures goes { GoWith core.now.xacts self.new }
@@ -302,7 +328,8 @@ impl Pages {
     fn mark_cut(&mut self, core: &Core, s: SessionNo, oid: Oid, number: u32) -> Result<(), NoMemory>
         requires open { 0 < length (levels_of core.now.xacts s) }
         requires goes { GoWith core.now.xacts self.old }
-        requires free { lowest_other s (standing core.now.xacts ((stores_of self.old).cuts oid number)) ≡ None }
+        requires free { lowest_other s (standing core.now.xacts
+            ((stores_of self.old).cuts oid number)) ≡ None }
         ensures ok { OnOk result (PutsCut core.now.xacts s oid number self.old self.new) }
         ensures left { LeavesOwn core.now.xacts s self.old self.new }
         ensures goes { GoWith core.now.xacts self.new }
@@ -313,7 +340,8 @@ impl Pages {
     fn put_object(&mut self, core: &mut Core, s: SessionNo, oid: Oid) -> Result<(), NoMemory>
         requires open { 0 < length (levels_of core.old.xacts s) }
         requires goes { GoWith core.old.xacts self.old }
-        requires free { lowest_other s (standing core.old.xacts ((stores_of self.old).objects oid)) ≡ None }
+        requires free { lowest_other s (standing core.old.xacts ((stores_of self.old).objects oid))
+            ≡ None }
         ensures ok { OnOk result (PutsObject core.old.xacts s oid true self.old self.new) }
         ensures left { LeavesOwn core.old.xacts s self.old self.new }
         ensures goes { GoWith core.old.xacts self.new }
@@ -325,7 +353,8 @@ impl Pages {
     fn erase_object(&mut self, core: &Core, s: SessionNo, oid: Oid) -> Result<(), NoMemory>
         requires open { 0 < length (levels_of core.now.xacts s) }
         requires goes { GoWith core.now.xacts self.old }
-        requires free { lowest_other s (standing core.now.xacts ((stores_of self.old).objects oid)) ≡ None }
+        requires free { lowest_other s (standing core.now.xacts ((stores_of self.old).objects oid))
+            ≡ None }
         ensures ok { OnOk result (PutsObject core.now.xacts s oid false self.old self.new) }
         ensures left { LeavesOwn core.now.xacts s self.old self.new }
         ensures goes { GoWith core.now.xacts self.new }

@@ -1,4 +1,4 @@
-// Who has something open of what a call would touch, and whether a number is free.
+// Who has something open of what a call would touch.
 ghost use Rattle.std.specs.Prelude.{◌≡◌, ◌≤◌};
 ghost use Rattle.lo_model.specs.Touch.{lower_of};
 ghost use Rattle.lo_pages.specs.Standing.{GoWith};
@@ -28,26 +28,10 @@ impl Pages {
         let end = PageKey { oid, number: last };
         let object = self.objects.busy(core, &oid, s);
         let pages = self.pages.busy_in(core, &start, &end, s);
-        let cuts = self.cuts.busy_in(core, &PageKey { oid, number: 0 }, &end, s);
+        let cuts = self
+            .cuts
+            .busy_in(core, &PageKey { oid, number: 0 }, &end, s);
         lower(object, lower(pages, cuts))
-    }
-
-    /// Whether the number is no object of the committed view, and no open transaction has an edit of it.
-    pub(crate) fn is_free(&self, core: &Core, oid: Oid) -> bool
-        requires goes { GoWith core.now.xacts self.now }
-    {
-        !self.exists(core, &core.xacts.committed(), oid) && !self.is_open(core, oid)
-    }
-
-    /// Whether some session has the object open. Whoever has is another session than one of any two.
-    fn is_open(&self, core: &Core, oid: Oid) -> bool
-        requires goes { GoWith core.now.xacts self.now }
-    {
-        let (Some(one), Some(two)) = (SessionNo::new(1), SessionNo::new(2)) else {
-            unreachable!()
-        };
-        self.holder(core, one, oid, 0, u32::MAX).is_some()
-            || self.holder(core, two, oid, 0, u32::MAX).is_some()
     }
 }
 

@@ -1,4 +1,4 @@
-use Rattle.std.proofs.Common.{◌≡◌, ℕ, ◌≤◌, ◌<◌, ◌+◌, ◌-◌, ◌*◌, ◌/◌, ◌%◌, sym, subst, ◌∙◌, arith}
+use Rattle.std.proofs.Common.{◌≡◌, ℕ, ◌+◌, ◌-◌, ◌*◌, ◌/◌, ◌%◌, sym, subst, ◌∙◌, arith}
 use Rattle.lo_base.specs.declared.refusal.Denied.{Denied}
 use Rattle.row_versions.specs.declared.base.Core.{Core}
 use Rattle.lo_pages.specs.Outcome.{cut_refused, Denies, LeavesOwn}

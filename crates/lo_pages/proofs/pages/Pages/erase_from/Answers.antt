@@ -1,6 +1,5 @@
-use Rattle.std.proofs.Common.{◌≡◌, ◌⊎◌, inl, inr, ℕ, ◌≤◌, ◌<◌, ◌+◌, ◌-◌, Some, None, refl, sym, subst, ap, ◌∙◌, arith}
+use Rattle.std.proofs.Common.{◌≡◌, ◌⊎◌, inl, inr, ℕ, ◌≤◌, ◌<◌, ◌+◌, sym, subst, arith}
 use Rattle.std.proofs.lemmas.Bool.{cases_lt}
-use Rattle.lo_pages.specs.Calls.{own}
 use Rattle.lo_pages.specs.Outcome.{NoneFrom, LeastFrom}
 use Rattle.lo_pages.specs.Standing.{has_page}
 use Rattle.lo_pages.specs.Steps.{Erasing}

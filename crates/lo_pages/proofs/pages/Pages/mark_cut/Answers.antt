@@ -1,4 +1,4 @@
-use Rattle.std.proofs.Common.{arith, Some, None}
+use Rattle.std.proofs.Common.{arith, None}
 use Rattle.lo_pages.proofs.Steps.{cut_put, cut_left, cut_goes}
 use Rattle.lo_pages.proofs.pages.Pages.mark_cut.Goals as goal
 

@@ -1,4 +1,4 @@
-use Rattle.std.proofs.Common.{arith, Some, None}
+use Rattle.std.proofs.Common.{Some}
 use Rattle.lo_pages.proofs.Steps.{object_put, object_left, object_goes}
 use Rattle.lo_pages.proofs.pages.Pages.put_object.Goals as goal
 

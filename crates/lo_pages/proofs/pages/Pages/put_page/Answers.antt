@@ -1,4 +1,4 @@
-use Rattle.std.proofs.Common.{arith, Some, None}
+use Rattle.std.proofs.Common.{arith, Some}
 use Rattle.lo_pages.proofs.Steps.{page_put, page_left, page_goes}
 use Rattle.lo_pages.proofs.pages.Pages.put_page.Goals as goal
 

@@ -2,7 +2,7 @@ use Rattle.std.specs.Prelude.{List}
 use Rattle.lo_model.specs.Descriptor.{bytes_or_none}
 use Rattle.lo_pages.specs.Standing.{page_value, stores_of}
 use Rattle.lo_pages.specs.Stores.{bytes_at}
-use Rattle.std.proofs.Common.{◌≡◌, ℕ, ◌+◌, ◌*◌, length, ap, sym, ◌∙◌, arith}
+use Rattle.std.proofs.Common.{◌≡◌, ℕ, length, ap, sym, arith}
 use Rattle.lo_pages.proofs.Finding.{size_without, size_by_last}
 use Rattle.lo_pages.proofs.pages.Pages.size.Goals as goal
 

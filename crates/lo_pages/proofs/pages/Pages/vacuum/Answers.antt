@@ -1,4 +1,4 @@
-use Rattle.lo_pages.proofs.Vacuuming.{VacuumsAll, all_stand, all_go, all_read, all_open, all_left}
+use Rattle.lo_pages.proofs.Vacuuming.{all_stand, all_go, all_read, all_open, all_left}
 use Rattle.lo_pages.proofs.pages.Pages.vacuum.Goals as goal
 
 pub returns-clause-stand : goal.returns-clause-stand

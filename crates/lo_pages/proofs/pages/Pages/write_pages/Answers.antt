@@ -1,4 +1,4 @@
-use Rattle.std.proofs.Common.{◌≡◌, ℕ, ◌≤◌, ◌<◌, ◌+◌, ◌-◌, ◌/◌, length, refl, sym, subst, ◌∙◌, arith}
+use Rattle.std.proofs.Common.{◌<◌, ◌+◌, ◌-◌, ◌/◌, length, refl, sym, subst, ◌∙◌, arith}
 use Rattle.xact_core.specs.Transactions.{levels_of}
 use Rattle.row_versions.specs.declared.base.Core.{Core}
 use Rattle.lo_pages.specs.Outcome.{LeavesOwn}
