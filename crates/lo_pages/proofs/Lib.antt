@@ -20,4 +20,5 @@ pub mod Looping
 pub mod Adding
 pub mod Vacuuming
 pub mod Blocks
+pub mod Numbers
 mod Examples
