@@ -1,12 +1,12 @@
--- Which numbers are free, and the search for the least free one.
-use Rattle.std.proofs.Common.{◌≡◌, ℕ, zero, suc, ◌+◌, ◌-◌, ◌/◌, ◌<◌, ◌≤◌, ◌⊎◌, inl, inr, Bool, true, false, List, [], ◌∷◌, length, Option, Some, None, refl, ap, sym, subst, ◌∙◌, arith}
-use Rattle.std.specs.Prelude.{is_some, not, ◌==◌, ◌||◌, ◌&&◌, nat_lt, nat_le, if◌then◌else◌}
+-- Which numbers are free.
+use Rattle.std.proofs.Common.{◌≡◌, ℕ, ◌+◌, ◌/◌, ◌≤◌, ◌⊎◌, inl, inr, Bool, true, false, List, [], ◌∷◌, length, Option, Some, None, refl, ap, sym, ◌∙◌, arith}
+use Rattle.std.specs.Prelude.{is_some, ◌==◌, ◌||◌, ◌&&◌, nat_le, if◌then◌else◌}
 use Rattle.std.proofs.lemmas.Bool.{false≢true, cases_eq}
 use Rattle.std.proofs.lemmas.Bool.Decides.{nat_tests}
 use Rattle.lo_model.specs.declared.owner.Owner.{Owner}
 use Rattle.lo_model.specs.declared.owner.Owner.TheVariants.{Running, Committed}
 use Rattle.lo_model.specs.Edit.{Deed, Create, Write, Cut, Unlink, Put, Delete, Edit}
-use Rattle.lo_model.specs.Numbering.{oid_end, is_on, is_running, has_open_edit, least_from, may_be_picked}
+use Rattle.lo_model.specs.Numbering.{is_on, is_running, has_open_edit}
 use Rattle.lo_model.specs.Touch.{WholeObject, touched, meets, other_session, lower_of, holder_of, busy_with}
 use Rattle.xact_core.specs.Transactions.{Transactions}
 use Rattle.row_versions.specs.Stack.{Each}
@@ -80,14 +80,3 @@ module _ (x : Transactions) (pages : Pages) (o : ℕ) where
       ap (λ (p : Option ℕ). is_some p || is_some q) (busy_of 1 r first ys stands)
       ∙ (ap (λ (p : Option ℕ). is_some (busy_with 1 (WholeObject o) ys) || is_some p) (busy_of 2 q second ys stands)
       ∙ both_busy o ys stands.stand.proper)
-
--- the search, number by number
-
-pub least_here : (test : ℕ → Bool) (n more : ℕ) → test n ≡ true → least_from (test n) more n test ≡ Some n
-least_here test n more passes = rw passes refl
-
-pub least_next : (test : ℕ → Bool) (n : ℕ) → n < oid_end → test n ≡ false → least_from (test n) (oid_end - n) n test ≡ least_from (test (n + 1)) (oid_end - (n + 1)) (n + 1) test
-least_next test n less passed = let count : oid_end - n ≡ suc (oid_end - (n + 1)) = omega (arith, less) in rw (passed, count) refl
-
-pub least_none : (test : ℕ → Bool) (n : ℕ) → oid_end ≤ n → test n ≡ false → least_from (test n) (oid_end - n) n test ≡ None
-least_none test n most passed = let count : oid_end - n ≡ 0 = omega (arith, most) in rw (passed, count) refl
