@@ -14,6 +14,7 @@ pub mod Looping
 pub mod Loops
 pub mod Making
 pub mod More
+pub mod Numbers
 pub mod Objects
 pub mod Reading
 pub mod Rest

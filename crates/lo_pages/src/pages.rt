@@ -6,6 +6,7 @@ ghost use Rattle.lo_model.specs.declared.viewer.Viewer.{Viewer};
 ghost use Rattle.lo_model.specs.Descriptor.{bytes_or_none};
 ghost use Rattle.lo_model.specs.Edit.{Deed, Edit};
 ghost use Rattle.lo_model.specs.Listing.{has_object};
+ghost use Rattle.lo_model.specs.Numbering.{picked_oid};
 ghost use Rattle.lo_model.specs.Object.{object_in};
 ghost use Rattle.xact_core.specs.declared.snapshot.Snapshot.{Snapshot};
 ghost use Rattle.xact_core.specs.Transactions.{Transactions};
@@ -26,6 +27,9 @@ pub const PAGE_BYTES: u64 = 2048;
 
 /// The largest size of an object, which is 2147483647 pages (manual, Large Objects).
 pub const LARGEST_SIZE: u64 = 4398046509056;
+
+/// No object has this number or a higher one.
+const OID_END: u64 = 4294967296;
 
 /// Large objects. `objects` has a version for each creation and removal, `pages` one for each page that was written, cut or
 /// taken away, and `cuts` an erasure for each cut, at the page where the object then ended. No version tells the size of an
@@ -98,6 +102,23 @@ impl Pages {
             None => &[],
             Some(bytes) => bytes.items(),
         }
+    }
+
+    /// The least number from one on that is no object of the committed view, and of which no open transaction has an edit.
+    /// It costs a look at each number up to the one that is found.
+    pub fn free_oid(&self, core: &Core, from: u64) -> Option<Oid>
+        requires goes { GoWith core.now.xacts self.now }
+        ensures { (ys : List (Edit Deed)) → StandFor core.now.xacts self.now ys →
+            result ≡ picked_oid (core.now.xacts.clock + 1) from ys }
+    {
+        let mut number = from;
+        while number < OID_END {
+            if self.is_free(core, number as u32) {
+                return Some(number as u32);
+            }
+            number += 1;
+        }
+        None
     }
 
     /// The least object of a view whose number is at or above another.

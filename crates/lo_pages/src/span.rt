@@ -1,7 +1,9 @@
-// Who has something open of what a call would touch.
-ghost use Rattle.std.specs.Prelude.{◌≡◌, ◌≤◌};
+// Who has something open of what a call would touch, and whether a number is free.
+ghost use Rattle.std.specs.Prelude.{◌≡◌, ◌≤◌, ◌+◌, List};
+ghost use Rattle.lo_model.specs.Edit.{Deed, Edit};
+ghost use Rattle.lo_model.specs.Numbering.{is_free_oid, has_open_edit};
 ghost use Rattle.lo_model.specs.Touch.{lower_of};
-ghost use Rattle.lo_pages.specs.Standing.{GoWith};
+ghost use Rattle.lo_pages.specs.Standing.{GoWith, StandFor};
 ghost use Rattle.lo_pages.specs.Steps.{HasHolder};
 
 use crate::page_key::PageKey;
@@ -32,6 +34,32 @@ impl Pages {
             .cuts
             .busy_in(core, &PageKey { oid, number: 0 }, &end, s);
         lower(object, lower(pages, cuts))
+    }
+
+    /// Whether the number is no object of the committed view, and no open transaction has an edit of it.
+    pub(crate) fn is_free(&self, core: &Core, oid: Oid) -> bool
+        requires goes { GoWith core.now.xacts self.now }
+        ensures { (ys : List (Edit Deed)) → StandFor core.now.xacts self.now ys →
+            result ≡ is_free_oid (core.now.xacts.clock + 1) ys oid }
+    {
+        !self.exists(core, &core.xacts.committed(), oid) && !self.is_open(core, oid)
+    }
+
+    /// Whether some session has the object open. Whoever has is another session than one of any two.
+    fn is_open(&self, core: &Core, oid: Oid) -> bool
+        requires goes { GoWith core.now.xacts self.now }
+        ensures { (ys : List (Edit Deed)) → StandFor core.now.xacts self.now ys →
+            result ≡ has_open_edit oid ys }
+    {
+        let Some(one) = SessionNo::new(1) else {
+            unreachable!()
+        };
+        let Some(two) = SessionNo::new(2) else {
+            unreachable!()
+        };
+        let first = self.holder(core, one, oid, 0, u32::MAX);
+        let second = self.holder(core, two, oid, 0, u32::MAX);
+        first.is_some() | second.is_some()
     }
 }
 
