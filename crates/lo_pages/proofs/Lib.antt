@@ -6,6 +6,7 @@ pub mod Calling
 pub mod Clauses
 pub mod Counting
 mod Examples
+pub mod Filling
 pub mod Finding
 pub mod Folds
 pub mod Holding

@@ -7,11 +7,12 @@ ghost use Rattle.lo_model.specs.Descriptor.{bytes_or_none};
 ghost use Rattle.lo_model.specs.Edit.{Deed, Edit};
 ghost use Rattle.lo_model.specs.Listing.{has_object};
 ghost use Rattle.lo_model.specs.Numbering.{picked_oid};
-ghost use Rattle.lo_model.specs.Object.{object_in};
+ghost use Rattle.lo_model.specs.Object.{object_in, at_size};
 ghost use Rattle.xact_core.specs.declared.snapshot.Snapshot.{Snapshot};
 ghost use Rattle.xact_core.specs.Transactions.{Transactions};
 ghost use Rattle.row_versions.specs.Looks.{IsLook};
 ghost use Rattle.lo_pages.specs.Held.{LeavesHeld};
+ghost use Rattle.lo_pages.specs.Object.{bytes_from};
 ghost use Rattle.lo_pages.specs.Outcome.{piece_at, is_byte, has_bytes, NoneFrom, LeastFrom};
 ghost use Rattle.lo_pages.specs.Standing.{GoWith, StandFor, ReadsAs, has_page, last_number, page_value, stores_of};
 ghost use Rattle.lo_pages.specs.Stores.{open_at, head_at, bytes_at};
@@ -27,6 +28,9 @@ pub const PAGE_BYTES: u64 = 2048;
 
 /// The largest size of an object, which is 2147483647 pages (manual, Large Objects).
 pub const LARGEST_SIZE: u64 = 4398046509056;
+
+/// Where the last page ends that a number of 32 bits names. No object is larger.
+const PAGES_END: u64 = 8796093022208;
 
 /// No object has this number or a higher one.
 const OID_END: u64 = 4294967296;
@@ -88,6 +92,53 @@ impl Pages {
             None => 0,
             Some(key) => key.number as u64 * PAGE_BYTES
                 + self.page(core, snap, oid, key.number).len() as u64,
+        }
+    }
+
+    /// Fills the front of `out` with the object's bytes in a view, from an offset on, as many as there are and as fit, and
+    /// answers how many these are. It looks at the pages that they lie in, and at the last one for the size.
+    pub fn read_into(
+        &self,
+        core: &Core,
+        snap: &Snapshot,
+        oid: Oid,
+        at: u64,
+        out: &mut [u8],
+    ) -> usize
+        requires kept { IsLook core.now.xacts snap.now }
+        ensures count { (edits : List (Edit Deed)) →
+            ReadsAs core.now.xacts snap.now self.now edits →
+            result ≡ length (piece_at at (length out.old) (bytes_or_none (object_in oid edits))) }
+        ensures bytes { (edits : List (Edit Deed)) →
+            ReadsAs core.now.xacts snap.now self.now edits →
+            out.new ≡ piece_at at (length out.old) (bytes_or_none
+            (object_in oid edits)) ++ drop result out.old }
+    {
+        let end = self.size(core, snap, oid).min(PAGES_END);
+        let count = (out.len() as u64).min(end.saturating_sub(at)) as usize;
+        if count == 0 {
+            return 0;
+        }
+        self.fill(core, snap, oid, at, &mut out[..count]);
+        count
+    }
+
+    /// Fills `out` with what a view finds in the pages of an object, from an offset on.
+    fn fill(&self, core: &Core, snap: &Snapshot, oid: Oid, at: u64, out: &mut [u8])
+        requires kept { IsLook core.now.xacts snap.now }
+        requires small { at + length out.old ≤ 8796093022208 }
+        ensures { out.new ≡ bytes_from (bytes_at page_value core.now.xacts snap.now
+            (stores_of self.now) oid) at (length out.old) }
+    {
+        let count = out.len();
+        let mut done = 0;
+        while done < count {
+            let place = at + done as u64;
+            let offset = (place % PAGE_BYTES) as usize;
+            let end = count.min(done + (PAGE_BYTES as usize - offset));
+            let page = self.page(core, snap, oid, (place / PAGE_BYTES) as u32);
+            fill(page, offset, &mut out[done..end]);
+            done = end;
         }
     }
 
@@ -199,4 +250,15 @@ fn any_byte(page: &[u8]) -> bool
     ensures { result ≡ list_any is_byte page.now }
 {
     page.iter().any(|byte| *byte != 0)
+}
+
+/// Fills `out` with the bytes of a page from an offset on, and with zeros behind its end.
+fn fill(page: &[u8], offset: usize, out: &mut [u8])
+    ensures { out.new ≡ at_size (length out.old) (drop offset page.now) }
+{
+    let rest = page.get(offset..).unwrap_or(&[]);
+    let there = rest.len().min(out.len());
+    let (front, back) = out.split_at_mut(there);
+    front.copy_from_slice(&rest[..there]);
+    back.fill(0);
 }
