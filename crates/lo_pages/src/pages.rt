@@ -135,10 +135,10 @@ impl Pages {
         let count = out.len();
         let mut done = 0;
         while done < count {
-            let place = at + done as u64;
-            let offset = (place % PAGE_BYTES) as usize;
+            let start = at + done as u64;
+            let offset = (start % PAGE_BYTES) as usize;
             let end = count.min(done + (PAGE_BYTES as usize - offset));
-            let page = self.page(core, snap, oid, (place / PAGE_BYTES) as u32);
+            let page = self.page(core, snap, oid, (start / PAGE_BYTES) as u32);
             fill(page, offset, &mut out[done..end]);
             done = end;
         }
