@@ -1,19 +1,18 @@
 -- The page versions that a view's edits have are those that the model counts among the versions which the view reads.
-use Rattle.std.proofs.Common.{◌≡◌, ℕ, ℤ, zero, suc, ◌+◌, ◌-◌, ◌/◌, ◌<◌, ◌≤◌, ◌⊎◌, inl, inr, Bool, true, false, cond, List, [], ◌∷◌, ◌++◌, length, Option, Some, None, refl, ap, sym, subst, ◌∙◌, arith}
-use Rattle.std.specs.Prelude.{not, ◌==◌, ◌&&◌, ◌||◌, nat_le, map, filter, is_some, Contains, if◌then◌else◌}
+use Rattle.std.proofs.Common.{◌≡◌, ℕ, ℤ, zero, suc, ◌+◌, ◌-◌, ◌/◌, ◌<◌, ◌≤◌, ◌⊎◌, inl, inr, Bool, true, false, cond, List, [], ◌∷◌, length, Option, Some, None, refl, ap, sym, subst, ◌∙◌, arith}
+use Rattle.std.specs.Prelude.{not, ◌||◌, map, filter, Contains, if◌then◌else◌}
 use Rattle.std.specs.List.{list_any, range_with_len}
 use Rattle.std.proofs.lemmas.Bool.{false≢true, cases_eq}
 use Rattle.std.proofs.lemmas.Bool.Decides.{nat_tests}
 use Rattle.std.proofs.lemmas.List.Elements.{Contains-append_left, Contains-append_right, Contains-append_cases}
 use Rattle.lo_base.specs.declared.value.Value.{Value}
 use Rattle.lo_model.specs.Edit.{Deed, Create, Write, Cut, Unlink, Put, Delete, Edit}
-use Rattle.lo_model.specs.Held.{BlockVersion, PageVersion, ChunkVersion, Made, made_page, made_chunk, made_chunks, made_by, chunks_in, pages_spanned, touches, left_by, left_in, is_there_in, versions_in}
-use Rattle.lo_model.specs.Object.{object_in}
-use Rattle.lo_model.specs.Touch.{Part, Page, covers, touched}
+use Rattle.lo_model.specs.Held.{BlockVersion, PageVersion, ChunkVersion, Made, made_page, made_chunk, made_chunks, made_by, chunks_in, touches, left_by, left_in, is_there_in, versions_in}
+use Rattle.lo_model.specs.Touch.{Part, Page, touched}
 use Rattle.row_versions.specs.Vacuum.{last_in}
 use Rattle.row_versions.proofs.Keeping.{cons_cases, cons_rest, cons_first, nil_none}
 use Rattle.lo_pages.specs.Content.{touches_page}
-use Rattle.lo_pages.specs.Held.{last_touching, makes_page, HasPageVersion}
+use Rattle.lo_pages.specs.Held.{makes_page, HasPageVersion}
 
 -- What is in lists that are made of others.
 

@@ -1,5 +1,5 @@
 -- The three searches find just the session that a request is busy with.
-use Rattle.std.proofs.Common.{◌≡◌, ℕ, zero, suc, ◌+◌, ◌-◌, ◌/◌, ◌<◌, ◌≤◌, inl, inr, ◌⊎◌, min, max, Bool, true, false, cond, List, [], ◌∷◌, length, Option, Some, None, refl, ap, sym, subst, ◌∙◌, arith}
+use Rattle.std.proofs.Common.{◌≡◌, ℕ, zero, suc, ◌+◌, ◌-◌, ◌/◌, ◌<◌, ◌≤◌, inl, inr, ◌⊎◌, max, Bool, true, false, cond, List, [], ◌∷◌, length, Option, Some, None, refl, ap, sym, subst, ◌∙◌, arith}
 use Rattle.std.specs.Prelude.{◌||◌, ◌&&◌, ◌==◌, nat_le, filter, if◌then◌else◌}
 use Rattle.std.proofs.lemmas.Bool.{false≢true, cases_lt, cases_eq, or_cases, or_left, or_right}
 use Rattle.std.proofs.lemmas.Bool.Decides.{nat_tests}
@@ -11,7 +11,7 @@ use Rattle.lo_model.proofs.TouchLaws.{met, shared}
 use Rattle.xact_core.specs.Transactions.{Transactions}
 use Rattle.row_versions.specs.Vacuum.{is_open_to, any_open}
 use Rattle.row_versions.specs.Stands.{standing, lowest_other}
-use Rattle.row_versions.proofs.Lowest.{IsLowest, lowest_is, lowest_same}
+use Rattle.row_versions.proofs.Lowest.{IsLowest, lowest_is, lowest_same, lowest_joined}
 use Rattle.lo_pages.specs.Content.{Content, touches_page, at_page}
 use Rattle.lo_pages.specs.Stores.{Stores, cut_open, open_at, PagesStand}
 use Rattle.lo_pages.specs.Calls.{pages_open, searched, pages_lowest, cuts_lowest, search, meeting, NothingAbove, IsFrom, Spans}
@@ -219,24 +219,6 @@ busy_meeting s wanted (e ∷ es) = by_meets (meets wanted (touched e.deed)) (bus
     by_meets : (b : Bool) → busy_with s wanted es ≡ lowest_other s (meeting wanted es) → lower_of (if b then other_session s e.owner else None) (busy_with s wanted es) ≡ lowest_other s (cond b (e ∷ meeting wanted es) (meeting wanted es))
     by_meets true rest = ap (lower_of (other_session s e.owner)) rest
     by_meets false rest = rest
-
-pub lowest_joined : (s : ℕ) (f g h : ℕ → Bool) → ((t : ℕ) → h t ≡ (f t || g t)) → (o p : Option ℕ) → IsLowest s f o → IsLowest s g p → IsLowest s h (lower_of o p)
-lowest_joined s f g h both None None first second = λ t apart. both t ∙ rw (first t apart, second t apart) refl
-lowest_joined s f g h both None (Some b) first second = (second.0, both b ∙ rw (first b second.0, second.1) refl, λ u apart less. both u ∙ rw (first u apart, second.2 u apart less) refl)
-lowest_joined s f g h both (Some a) None first second = (first.0, both a ∙ (let here : f a ≡ true = first.1 in rw here refl), λ u apart less. both u ∙ rw (first.2 u apart less, second u apart) refl)
-lowest_joined s f g h both (Some a) (Some b) first second = by_less (cases_lt a b)
-  where
-    by_less : (a < b) ⊎ (b ≤ a) → IsLowest s h (Some (min a b))
-    by_less (inl less) =
-        let least : a ≡ min a b = omega arith in
-        subst (λ (n : ℕ). IsLowest s h (Some n)) least (first.0, both a ∙ (let here : f a ≡ true = first.1 in rw here refl), λ u apart under. both u ∙ rw (first.2 u apart under, second.2 u apart (omega (arith, under, less))) refl)
-    by_less (inr more) =
-        let least : b ≡ min a b = omega arith in
-        subst (λ (n : ℕ). IsLowest s h (Some n)) least (second.0, both b ∙ by_first (f b) second.1, λ u apart under. both u ∙ rw (first.2 u apart (omega (arith, under, more)), second.2 u apart under) refl)
-      where
-        by_first : (c : Bool) → g b ≡ true → (c || g b) ≡ true
-        by_first true is = refl
-        by_first false is = is
 
 module _ {P : Type 0} (s : ℕ) (x : Transactions) (stores : Stores P) (o : ℕ) where
   pub pages_lowest_is : (first count : ℕ) → IsLowest s (λ t. pages_open (Whole t) x stores o first count) (pages_lowest s x stores o first count)

@@ -9,7 +9,7 @@ use Rattle.xact_core.specs.declared.snapshot.Snapshot.{Snapshot}
 use Rattle.row_versions.specs.Stack.{Each, Pairwise}
 use Rattle.row_versions.specs.Vacuum.{reclaimed, OneOwner}
 use Rattle.row_versions.specs.Count.{Different, puts_in, clocks_left, IsHeldClock, Mark, mark, Apart, ListsAllHeld, blocks_in}
-use Rattle.row_versions.proofs.Counting.{left_is_held}
+use Rattle.row_versions.proofs.Counting.{left_is_held, each_contains}
 use Rattle.row_versions.proofs.Keeping.{cons_cases, cons_rest, nil_none}
 
 -- marks, each once, that stand in another list are no more
@@ -52,14 +52,6 @@ without_has n k (m ∷ ms) here apart = by_test (same_mark m n) refl (cons_cases
     by_test true at (inr later) left = later
     by_test false at (inl is) left = (0, omega arith, is)
     by_test false at (inr later) left = cons_rest m k (without n ms) (left later apart)
-
-each_contains : (P : Mark → Type 0) (ns : List Mark) (k : Mark) → Each P ns → Contains ns k → P k
-each_contains P [] k h here = absurd (nil_none k here)
-each_contains P (n ∷ ns) k h here = by_case (cons_cases n k ns here) (each_contains P ns k h.1)
-  where
-    by_case : (n ≡ k) ⊎ Contains ns k → (Contains ns k → P k) → P k
-    by_case (inl is) left = subst P is h.0
-    by_case (inr later) left = left later
 
 fewer : (ns ms : List Mark) → Apart ns → ((k : Mark) → Contains ns k → Contains ms k) → length ns ≤ length ms
 fewer [] ms once within = omega arith

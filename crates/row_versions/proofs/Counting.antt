@@ -218,7 +218,7 @@ without_has n k (m ∷ ms) here apart = by_test (m == n) refl (cons_cases m k ms
     by_test false at (inl is) left = (0, omega arith, is)
     by_test false at (inr later) left = cons_rest m k (without n ms) (left later apart)
 
-each_contains : (P : ℕ → Type 0) (ns : List ℕ) (k : ℕ) → Each P ns → Contains ns k → P k
+pub each_contains : {X : Type 0} (P : X → Type 0) (ns : List X) (k : X) → Each P ns → Contains ns k → P k
 each_contains P [] k h here = absurd (nil_none k here)
 each_contains P (n ∷ ns) k h here = by_case (cons_cases n k ns here) (each_contains P ns k h.1)
   where

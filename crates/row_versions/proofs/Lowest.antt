@@ -16,7 +16,7 @@ abbrev pub IsLowest : (session : ℕ) → (ℕ → Bool) → Option ℕ → Type
 IsLowest s test None = (t : ℕ) → t ≢ s → test t ≡ false
 IsLowest s test (Some t) = (t ≢ s) × (test t ≡ true) × ((u : ℕ) → u ≢ s → u < t → test u ≡ false)
 
-lowest_joined : (s : ℕ) (f g h : ℕ → Bool) → ((t : ℕ) → h t ≡ (f t || g t)) → (o p : Option ℕ) → IsLowest s f o → IsLowest s g p → IsLowest s h (lower_of o p)
+pub lowest_joined : (s : ℕ) (f g h : ℕ → Bool) → ((t : ℕ) → h t ≡ (f t || g t)) → (o p : Option ℕ) → IsLowest s f o → IsLowest s g p → IsLowest s h (lower_of o p)
 lowest_joined s f g h both None None first second = λ t apart. both t ∙ rw (first t apart, second t apart) refl
 lowest_joined s f g h both None (Some b) first second = (second.0, both b ∙ rw (first b second.0, second.1) refl, λ u apart less. both u ∙ rw (first u apart, second.2 u apart less) refl)
 lowest_joined s f g h both (Some a) None first second = (first.0, both a ∙ (let here : f a ≡ true = first.1 in rw here refl), λ u apart less. both u ∙ rw (first.2 u apart less, second u apart) refl)

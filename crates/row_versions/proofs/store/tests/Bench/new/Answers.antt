@@ -1,9 +1,7 @@
-use Rattle.std.proofs.Common.{List, subst}
-use Rattle.std.specs.Prelude.{Result, IfOk}
-use Rattle.lo_base.specs.declared.memory.NoMemory.{NoMemory}
+use Rattle.std.proofs.Common.{subst}
+use Rattle.std.specs.Prelude.{IfOk}
 use Rattle.xact_core.specs.Transactions.{Transactions}
 use Rattle.row_versions.specs.Store.{GoesWith}
-use Rattle.row_versions.specs.declared.store.Store.{Store}
 use Rattle.row_versions.proofs.store.tests.Bench.new.Goals as goal
 
 pub returns-clause-goes : goal.returns-clause-goes
