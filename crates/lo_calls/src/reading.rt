@@ -1,0 +1,42 @@
+// Reading a part of an object into one buffer of exactly its bytes.
+ghost use Rattle.std.specs.Prelude.{◌≡◌, length, IfOk};
+
+use crate::session::refused;
+use crate::store::LoStore;
+use lo_base::{Bytes, Cause, Denied, NoMemory, Oid};
+use row_versions::Core;
+use std::alloc::Global;
+use xact_core::Snapshot;
+
+/// The most bytes that one call reads.
+const READ_LIMIT: u64 = 16777216;
+
+/// The object's bytes in a view from an offset on, at most so many. It is refused with `TooMuch` where these are more than
+/// `READ_LIMIT`.
+pub(crate) fn read_bytes(
+    alloc: Global,
+    store: &LoStore,
+    core: &Core,
+    snap: &Snapshot,
+    oid: Oid,
+    at: u64,
+    most: u64,
+) -> Result<Bytes, Denied> {
+    let size = store.pages.size(core, snap, oid);
+    let count = size.saturating_sub(at).min(most);
+    if count > READ_LIMIT {
+        return Err(refused(Cause::TooMuch, count as i64));
+    }
+    let mut bytes = zeros(alloc, count as usize)?;
+    store.pages.read_into(core, snap, oid, at, &mut bytes);
+    Ok(Bytes::from_vec(bytes))
+}
+
+/// So many zeros.
+fn zeros(alloc: Global, count: usize) -> Result<Vec<u8>, NoMemory>
+    ensures { IfOk result (λ bytes. length bytes.items ≡ count) }
+{
+    let mut bytes = Vec::new(alloc);
+    bytes.resize(count, 0)?;
+    Ok(bytes)
+}

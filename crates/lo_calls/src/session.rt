@@ -1,0 +1,298 @@
+// A session's calls on its descriptors. Each is the row of its name in DescriptorRows.
+ghost use Rattle.std.specs.Prelude.{◌≡◌, ◌<◌, ◌-◌, ◌^◌, ℕ, ℤ, pos, length, IfOk, IfErr, OnOk};
+ghost use Rattle.lo_base.specs.declared.reply.Reply.TheVariants.{Number, Content};
+ghost use Rattle.lo_base.specs.declared.refusal.Denied.TheVariants.{By};
+ghost use Rattle.xact_core.specs.Kept.{kept_views};
+ghost use Rattle.xact_core.specs.Transactions.{Transactions};
+ghost use Rattle.lo_calls.specs.declared.store.LoStore.{LoStore};
+ghost use Rattle.lo_calls.specs.Descriptors.{AreHeld};
+ghost use Rattle.lo_calls.specs.DescriptorRows.{open_row, close_row, read_row, write_row, seek_row, tell_row, truncate_row};
+ghost use Rattle.lo_calls.specs.World.{world, IsReady, Grants, Refuses, Denies, Keeps};
+
+use crate::descs::{Closing, Descriptor, Descs, MOST_DESCRIPTORS};
+use crate::reading::read_bytes;
+use crate::store::LoStore;
+use lo_base::{Bytes, Cause, Denied, Oid, Refusal, SessionNo};
+use lo_pages::LARGEST_SIZE;
+use row_versions::Core;
+use xact_core::Snapshot;
+
+/// The bit of a mode that asks for reading. The manual's name is INV_READ.
+const INV_READ: i32 = 0x40000;
+
+/// The bit of a mode that asks for writing, with which a descriptor may also be read. The manual's name is INV_WRITE.
+const INV_WRITE: i32 = 0x20000;
+
+/// The number of a session, and its open descriptors.
+#[derive(Drop)]
+pub struct LoSession {
+    pub descs: Descs,
+    pub s: SessionNo,
+}
+
+impl LoSession {
+    /// Opens a descriptor under the lowest free number. Of the mode count INV_READ and INV_WRITE alone; without INV_WRITE it
+    /// reads in the view of now, which it holds. It is refused with `NoObject`, with `BadMode` where the mode has neither bit,
+    /// and with `TooManyDescriptors` where 256 are open.
+    pub fn lo_open(
+        &mut self,
+        store: &LoStore,
+        core: &mut Core,
+        oid: Oid,
+        mode: i32,
+    ) -> Result<i32, Denied>
+        requires ready { IsReady (world core.old.xacts store.now self.old) }
+        requires views { length (kept_views core.old.xacts) < 2 ^ 64 - 4 }
+        ensures ok { IfOk result (λ fd. Grants (open_row oid mode)
+            (world core.old.xacts store.now self.old) (world core.new.xacts store.now self.new)
+            (Number fd)) }
+        ensures err { IfErr result (Denies (open_row oid mode)
+            (world core.old.xacts store.now self.old) (world core.new.xacts store.now self.new)) }
+        ensures keeps { Keeps (world core.old.xacts store.now self.old)
+            (world core.new.xacts store.now self.new) }
+    {
+        let snap = core.xacts.snapshot(self.s);
+        if !store.pages.exists(core, &snap, oid) {
+            return Err(refused(Cause::NoObject, i64::from(oid)));
+        }
+        if mode & (INV_READ | INV_WRITE) == 0 {
+            return Err(refused(Cause::BadMode, i64::from(mode)));
+        }
+        if self.descs.entries.len() >= MOST_DESCRIPTORS {
+            return Err(refused(Cause::TooManyDescriptors, MOST_DESCRIPTORS as i64));
+        }
+        let number = self.descs.free_number();
+        self.descs.make_room()?;
+        let hold = if mode & INV_WRITE == 0 {
+            Some(core.xacts.hold(snap)?)
+        } else {
+            None
+        };
+        self.descs.entries.push_reserved(Descriptor {
+            number,
+            oid,
+            position: 0,
+            level: core.xacts.levels(self.s),
+            hold,
+        });
+        Ok(number as i32)
+    }
+
+    /// Closes a descriptor. It is refused with `NoDescriptor` where none has the number.
+    pub fn lo_close(&mut self, core: &mut Core, fd: i32) -> Result<(), Refusal>
+        requires open { AreHeld core.old.xacts self.old.descs }
+        ensures ok { (store : LoStore) → OnOk result (Grants (close_row fd)
+            (world core.old.xacts store self.old) (world core.new.xacts store self.new)
+            (Number (pos 0))) }
+        ensures err { (store : LoStore) → IfErr result (Refuses (close_row fd)
+            (world core.old.xacts store self.old) (world core.new.xacts store self.new)) }
+        ensures keeps { (store : LoStore) → IsReady (world core.old.xacts store self.old) →
+            Keeps (world core.old.xacts store self.old) (world core.new.xacts store self.new) }
+    {
+        let index = self.descs.find(fd)?;
+        let number = self.descs.entries[index].number;
+        self.descs
+            .close(&mut core.xacts, &Closing::OfNumber(number));
+        Ok(())
+    }
+
+    /// Reads from the descriptor's position on, at most so many bytes, and moves the position behind them. A negative number
+    /// counts as 0. It is refused with `NoDescriptor`, and with `TooMuch` where the bytes are more than 16777216.
+    pub fn lo_read(
+        &mut self,
+        store: &LoStore,
+        core: &Core,
+        fd: i32,
+        len: i32,
+    ) -> Result<Bytes, Denied>
+        requires ready { IsReady (world core.now.xacts store.now self.old) }
+        ensures ok { IfOk result (λ bytes. Grants (read_row fd len)
+            (world core.now.xacts store.now self.old) (world core.now.xacts store.now self.new)
+            (Content bytes)) }
+        ensures err { IfErr result (Denies (read_row fd len)
+            (world core.now.xacts store.now self.old) (world core.now.xacts store.now self.new)) }
+        ensures keeps { Keeps (world core.now.xacts store.now self.old)
+            (world core.now.xacts store.now self.new) }
+    {
+        let index = self.descs.find(fd)?;
+        let descriptor = &self.descs.entries[index];
+        let (number, position) = (descriptor.number, descriptor.position);
+        let snap = self.view(core, descriptor);
+        let most = u64::try_from(len).unwrap_or(0);
+        let bytes = read_bytes(
+            self.descs.alloc,
+            store,
+            core,
+            &snap,
+            descriptor.oid,
+            position,
+            most,
+        )?;
+        self.descs
+            .move_to(number, position + bytes.items().len() as u64);
+        Ok(bytes)
+    }
+
+    /// Writes bytes at the descriptor's position, and moves the position behind them. It answers their number. It is refused
+    /// with `NoDescriptor`, with `NotWritable` where the descriptor was opened without INV_WRITE, with `NoObject` where the
+    /// object is gone from the current view, with `BadWrite` where the end would be above the largest size, and with `Busy`.
+    pub fn lo_write(
+        &mut self,
+        store: &mut LoStore,
+        core: &mut Core,
+        fd: i32,
+        bytes: &[u8],
+    ) -> Result<i64, Denied>
+        requires ready { IsReady (world core.old.xacts store.old self.old) }
+        ensures ok { IfOk result (λ count. Grants (write_row fd bytes.now)
+            (world core.old.xacts store.old self.old) (world core.new.xacts store.new self.new)
+            (Number count)) }
+        ensures err { IfErr result (Denies (write_row fd bytes.now)
+            (world core.old.xacts store.old self.old) (world core.new.xacts store.new self.new)) }
+        ensures keeps { Keeps (world core.old.xacts store.old self.old)
+            (world core.new.xacts store.new self.new) }
+        ensures core { core.new ≡ core.old }
+    {
+        let index = self.writable(fd)?;
+        let descriptor = &self.descs.entries[index];
+        let (number, oid, position) = (descriptor.number, descriptor.oid, descriptor.position);
+        store.pages.write(core, self.s, oid, position, bytes)?;
+        self.descs.move_to(number, position + bytes.len() as u64);
+        Ok(bytes.len() as i64)
+    }
+
+    /// Moves the descriptor: to an offset from the start for whence 0, from its position for 1, from the object's end for 2.
+    /// It answers the new position. It is refused with `NoDescriptor`, `BadWhence`, with `BadSeek` where the target is below
+    /// 0 or above the largest size, and unless `wide` with `PositionRange` where it is above 2147483647.
+    pub fn lo_lseek(
+        &mut self,
+        store: &LoStore,
+        core: &Core,
+        fd: i32,
+        offset: i64,
+        whence: i32,
+        wide: bool,
+    ) -> Result<i64, Refusal>
+        requires ready { IsReady (world core.now.xacts store.now self.old) }
+        ensures ok { IfOk result (λ position. Grants (seek_row wide fd offset whence)
+            (world core.now.xacts store.now self.old) (world core.now.xacts store.now self.new)
+            (Number position)) }
+        ensures err { IfErr result (Refuses (seek_row wide fd offset whence)
+            (world core.now.xacts store.now self.old) (world core.now.xacts store.now self.new)) }
+        ensures keeps { Keeps (world core.now.xacts store.now self.old)
+            (world core.now.xacts store.now self.new) }
+    {
+        let index = self.descs.find(fd)?;
+        let descriptor = &self.descs.entries[index];
+        let number = descriptor.number;
+        let base = match whence {
+            0 => 0,
+            1 => descriptor.position,
+            2 => {
+                let snap = self.view(core, descriptor);
+                store.pages.size(core, &snap, descriptor.oid)
+            }
+            _ => return Err(refusal(Cause::BadWhence, i64::from(whence))),
+        };
+        let target = i128::from(base) + i128::from(offset);
+        if target < 0 || target > i128::from(LARGEST_SIZE) {
+            return Err(refusal(Cause::BadSeek, offset));
+        }
+        let position = target as i64;
+        check_range(fd, position, wide)?;
+        self.descs.move_to(number, position as u64);
+        Ok(position)
+    }
+
+    /// The descriptor's position. It is refused with `NoDescriptor`, and unless `wide` with `PositionRange` where it is above
+    /// 2147483647.
+    pub fn lo_tell(&self, fd: i32, wide: bool) -> Result<i64, Refusal>
+        ensures ok { (x : Transactions) (store : LoStore) → IsReady (world x store self.now) →
+            IfOk result (λ position. Grants (tell_row wide fd) (world x store self.now)
+            (world x store self.now) (Number position)) }
+        ensures err { (x : Transactions) (store : LoStore) → IsReady (world x store self.now) →
+            IfErr result (Refuses (tell_row wide fd) (world x store self.now)
+            (world x store self.now)) }
+    {
+        let index = self.descs.find(fd)?;
+        let position = self.descs.entries[index].position as i64;
+        check_range(fd, position, wide)?;
+        Ok(position)
+    }
+
+    /// Gives the object of a descriptor a size. It is refused with `NoDescriptor`, with `NotWritable` where the descriptor was
+    /// opened without INV_WRITE, with `NoObject` where the object is gone from the current view, with `BadTruncate` where the
+    /// size is below 0 or above the largest one, and with `Busy`.
+    pub fn lo_truncate(
+        &self,
+        store: &mut LoStore,
+        core: &mut Core,
+        fd: i32,
+        len: i64,
+    ) -> Result<(), Denied>
+        requires ready { IsReady (world core.old.xacts store.old self.now) }
+        ensures ok { OnOk result (Grants (truncate_row fd len)
+            (world core.old.xacts store.old self.now) (world core.new.xacts store.new self.now)
+            (Number (pos 0))) }
+        ensures err { IfErr result (Denies (truncate_row fd len)
+            (world core.old.xacts store.old self.now) (world core.new.xacts store.new self.now)) }
+        ensures keeps { Keeps (world core.old.xacts store.old self.now)
+            (world core.new.xacts store.new self.now) }
+        ensures core { core.new ≡ core.old }
+    {
+        let index = self.writable(fd)?;
+        let oid = self.descs.entries[index].oid;
+        let Ok(size) = u64::try_from(len) else {
+            return Err(self.bad_size(store, core, oid, len));
+        };
+        store.pages.cut(core, self.s, oid, size)?;
+        Ok(())
+    }
+
+    /// Why a negative size is refused.
+    fn bad_size(&self, store: &LoStore, core: &Core, oid: Oid, len: i64) -> Denied {
+        let snap = core.xacts.snapshot(self.s);
+        if store.pages.exists(core, &snap, oid) {
+            refused(Cause::BadTruncate, len)
+        } else {
+            refused(Cause::NoObject, i64::from(oid))
+        }
+    }
+
+    /// At which index the descriptor of a number stands, which may write.
+    fn writable(&self, fd: i32) -> Result<usize, Refusal> {
+        let index = self.descs.find(fd)?;
+        if self.descs.entries[index].hold.is_some() {
+            return Err(refusal(Cause::NotWritable, i64::from(fd)));
+        }
+        Ok(index)
+    }
+
+    /// The view that a descriptor reads in: the one that it holds, or else the current one.
+    fn view(&self, core: &Core, descriptor: &Descriptor) -> Snapshot {
+        match &descriptor.hold {
+            Some(hold) => hold.snapshot(),
+            None => core.xacts.snapshot(self.s),
+        }
+    }
+}
+
+/// Refuses a position that has more than 31 bits, unless it may be wide.
+fn check_range(fd: i32, position: i64, wide: bool) -> Result<(), Refusal> {
+    if !wide && position > i64::from(i32::MAX) {
+        return Err(refusal(Cause::PositionRange, i64::from(fd)));
+    }
+    Ok(())
+}
+
+fn refusal(cause: Cause, subject: i64) -> Refusal
+    ensures { result ≡ record { cause = cause; subject = subject } }
+{
+    Refusal { cause, subject }
+}
+
+pub(crate) fn refused(cause: Cause, subject: i64) -> Denied
+    ensures { result ≡ By (record { cause = cause; subject = subject }) }
+{
+    Denied::By(Refusal { cause, subject })
+}
