@@ -31,7 +31,7 @@ found_later (pos n) d rest other = by_case (cases_eq d.number n)
     by_case (inr apart) = grind (arith, nat_tests)
 found_later (negsuc n) d rest other = refl
 
-rest_from : (entries : List Descriptor) (i : ℕ) (d : Descriptor) → i < length entries → d ≡ get_or entries i d → drop i entries ≡ d ∷ drop (suc i) entries
+pub rest_from : (entries : List Descriptor) (i : ℕ) (d : Descriptor) → i < length entries → d ≡ get_or entries i d → drop i entries ≡ d ∷ drop (suc i) entries
 rest_from entries i d within is = drop-cons entries i d within ∙ ap (λ (e : Descriptor). e ∷ drop (suc i) entries) (sym is)
 
 pub finds_here : (fd : ℤ) (descs : Descs) (i : ℕ) (d : Descriptor) → i < length descs.entries.items → d ≡ get_or descs.entries.items i d → described_at fd (map described_by (drop i descs.entries.items)) ≡ described_at fd (descriptors_of descs) → fd ≡ pos d.number → FindsDescriptor fd descs i

@@ -1,3 +1,4 @@
+pub mod Cancelling
 pub mod Closing
 pub mod Entries
 pub mod Mapping
