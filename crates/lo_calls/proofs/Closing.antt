@@ -1,7 +1,8 @@
 -- Closing descriptors: what each gives back, and what is left of a list of them.
 use Rattle.std.proofs.Common.{ℕ, zero, suc, ◌+◌, ◌-◌, ◌<◌, ◌≤◌, ◌≡◌, ◌⊎◌, inl, inr, Bool, true, false, List, [], ◌∷◌, ◌++◌, length, map, Option, Some, None, refl, ap, sym, subst, ◌∙◌, arith, get_or, take, drop, append_assoc, length-take, take-append-drop}
-use Rattle.std.specs.Prelude.{IsPermutation, Contains, remove, All, IfSome, not}
+use Rattle.std.specs.Prelude.{IsPermutation, Contains, remove, All, IfSome, filter, not, nat_le, nat_lt, ◌==◌}
 use Rattle.std.proofs.Math.Seq.{take-append_seam}
+use Rattle.std.proofs.lemmas.Bool.Decides.{nat_tests}
 use Rattle.std.proofs.lemmas.List.Edits.{length-remove}
 use Rattle.std.proofs.lemmas.List.Elements.{All-append, All-take, All-drop, filter-append}
 use Rattle.std.proofs.lemmas.List.Sorted.{IsPermutation-refl, IsPermutation-sym, IsPermutation-trans, IsPermutation-append_comm, IsPermutation-append_left, Contains-permutation}
@@ -9,10 +10,12 @@ use Rattle.xact_core.proofs.KeptViews.{kept_is, is_kept, held_kept}
 use Rattle.xact_core.specs.declared.snapshot.Snapshot.{Snapshot}
 use Rattle.xact_core.specs.Kept.{kept_views, HoldsOthers, KeptBy, ByNobody, ByWhole, ByBelow, ByHold}
 use Rattle.xact_core.specs.Transactions.{Transactions}
+use Rattle.lo_model.specs.Descriptor as model
 use Rattle.lo_calls.specs.declared.descs.Closing.{Closing}
+use Rattle.lo_calls.specs.declared.descs.Closing.TheVariants.{FromLevel, OnObject, OfNumber}
 use Rattle.lo_calls.specs.declared.descs.Descriptor.{Descriptor}
 use Rattle.lo_calls.specs.declared.descs.Descs.{Descs}
-use Rattle.lo_calls.specs.Descriptors.{held_by, holds_in, holds_of, closes, left_open, last_position, AreOpen, AreHeld, IsOwnHold, GivesBack, HoldsRest, Ends}
+use Rattle.lo_calls.specs.Descriptors.{described_by, held_by, holds_in, holds_of, closes, left_open, last_position, AreOpen, AreHeld, IsOwnHold, GivesBack, HoldsRest, Ends}
 use Rattle.lo_calls.proofs.Cancelling.{cancelled}
 use Rattle.lo_calls.proofs.Entries.{rest_from}
 
@@ -117,3 +120,29 @@ front_without entries i within =
     let front : length (take i entries) ≡ i = omega (arith, length-take i entries) in
     subst (λ (n : ℕ). take n (remove entries i) ≡ take i entries) front (take-append_seam (take i entries) (drop (suc i) entries))
 
+
+-- What contracts see of the rest
+
+filter_described : (p : Descriptor → Bool) (q : model.Descriptor → Bool) → ((d : Descriptor) → q (described_by d) ≡ p d) → (entries : List Descriptor) → map described_by (filter p entries) ≡ filter q (map described_by entries)
+filter_described p q alike [] = refl
+filter_described p q alike (d ∷ entries) = by_test (p d) refl (filter_described p q alike entries)
+  where
+    by_test : (t : Bool) → p d ≡ t → map described_by (filter p entries) ≡ filter q (map described_by entries) → map described_by (filter p (d ∷ entries)) ≡ filter q (map described_by (d ∷ entries))
+    by_test true is rest = rw (alike d, is) (ap (λ (ds : List model.Descriptor). described_by d ∷ ds) rest)
+    by_test false is rest = rw (alike d, is) rest
+
+below_or_not : (k level : ℕ) → nat_lt level k ≡ not (nat_le k level)
+below_or_not k level = grind (arith, nat_tests)
+
+pub left_below : (k : ℕ) (entries : List Descriptor) → map described_by (left_open (FromLevel k) entries) ≡ model.descriptors_below k (map described_by entries)
+left_below k entries = filter_described (λ (d : Descriptor). not (closes (FromLevel k) d)) (λ (d : model.Descriptor). nat_lt d.level k) (λ d. below_or_not k d.level) entries
+
+pub left_without_number : (n : ℕ) (entries : List Descriptor) → map described_by (left_open (OfNumber n) entries) ≡ model.without_number n (map described_by entries)
+left_without_number n entries = filter_described (λ (d : Descriptor). not (closes (OfNumber n) d)) (λ (d : model.Descriptor). not (d.number == n)) (λ d. refl) entries
+
+pub left_without_object : (oid : ℕ) (entries : List Descriptor) → map described_by (left_open (OnObject oid) entries) ≡ model.without_object oid (map described_by entries)
+left_without_object oid entries = filter_described (λ (d : Descriptor). not (closes (OnObject oid) d)) (λ (d : model.Descriptor). not (d.oid == oid)) (λ d. refl) entries
+
+pub none_left : (entries : List Descriptor) → left_open (FromLevel 0) entries ≡ []
+none_left [] = refl
+none_left (d ∷ entries) = let low : nat_le 0 d.level ≡ true = grind (arith, nat_tests) in rw low (none_left entries)
