@@ -1,3 +1,4 @@
+pub mod Arguments
 pub mod Descriptors
 pub mod DescriptorRows
 pub mod Numbers

@@ -1,0 +1,4 @@
+pub mod Getting
+pub mod Refusing
+pub mod Seeing
+pub mod Worlds
