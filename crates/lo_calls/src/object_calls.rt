@@ -3,13 +3,16 @@ ghost use Rattle.std.specs.Prelude.{◌≡◌, ◌≤◌, pos, length, IfOk, IfE
 ghost use Rattle.lo_base.specs.declared.reply.Reply.TheVariants.{Word, Number, Content};
 ghost use Rattle.lo_base.specs.declared.reply.Word.TheVariants as words;
 ghost use Rattle.lo_calls.specs.ObjectRows.{create_row, unlink_row, get_row, put_row};
+ghost use Rattle.lo_base.specs.declared.refusal.Cause.TheVariants.{NoObject};
+ghost use Rattle.lo_base.specs.declared.refusal.Denied.TheVariants.{By};
+ghost use Rattle.lo_calls.specs.Arguments.{IsOffset, IsNoOffset, IsLimit, IsNoLimit};
 ghost use Rattle.lo_calls.specs.World.{world, IsReady, Grants, Denies, Keeps};
 
 use crate::descs::Closing;
 use crate::reading::read_bytes;
 use crate::session::{LoSession, refused};
 use crate::store::LoStore;
-use lo_base::{Bytes, Cause, Denied, Oid};
+use lo_base::{Bytes, Cause, Denied, Oid, Refusal};
 use lo_pages::LARGEST_SIZE;
 use row_versions::Core;
 
@@ -106,16 +109,10 @@ impl LoSession {
     {
         let snap = core.xacts.snapshot(self.s);
         if !store.pages.exists(core, &snap, oid) {
-            return Err(refused(Cause::NoObject, i64::from(oid)));
+            return Err(no_object(oid));
         }
         let at = offset_in_object(from)?;
-        let most = match length {
-            None => u64::MAX,
-            Some(length) => match u64::try_from(length) {
-                Ok(most) => most,
-                Err(_) => return Err(refused(Cause::BadLength, i64::from(length))),
-            },
-        };
+        let most = limit(length)?;
         read_bytes(self.descs.alloc, store, core, &snap, oid, at, most)
     }
 
@@ -141,7 +138,7 @@ impl LoSession {
     {
         let snap = core.xacts.snapshot(self.s);
         if !store.pages.exists(core, &snap, oid) {
-            return Err(refused(Cause::NoObject, i64::from(oid)));
+            return Err(no_object(oid));
         }
         let offset = offset_in_object(at)?;
         store.pages.write(core, self.s, oid, offset, bytes)?;
@@ -149,10 +146,42 @@ impl LoSession {
     }
 }
 
+/// Refuses a call on an object that is not there.
+pub(crate) fn no_object(oid: Oid) -> Denied
+    ensures { result ≡ By (record { cause = NoObject; subject = pos oid }) }
+{
+    refused(Cause::NoObject, i64::from(oid))
+}
+
 /// An offset that an object can have. It is refused with `BadSeek` where no object can.
-fn offset_in_object(offset: i64) -> Result<u64, Denied> {
+fn offset_in_object(offset: i64) -> Result<u64, Refusal>
+    ensures ok { IfOk result (IsOffset offset) }
+    ensures err { IfErr result (IsNoOffset offset) }
+{
     match u64::try_from(offset) {
         Ok(at) if at <= LARGEST_SIZE => Ok(at),
-        _ => Err(refused(Cause::BadSeek, offset)),
+        _ => Err(Refusal {
+            cause: Cause::BadSeek,
+            subject: offset,
+        }),
+    }
+}
+
+/// At most how many bytes are read, where so many are asked for, or all. It is refused with `BadLength` where the number is
+/// negative.
+#[tactic(auto, using(crate::proofs::Getting::no_limit))]
+fn limit(length: Option<i32>) -> Result<u64, Refusal>
+    ensures ok { IfOk result (IsLimit length) }
+    ensures err { IfErr result (IsNoLimit length) }
+{
+    match length {
+        None => Ok(u64::MAX),
+        Some(length) => match u64::try_from(length) {
+            Ok(most) => Ok(most),
+            Err(_) => Err(Refusal {
+                cause: Cause::BadLength,
+                subject: i64::from(length),
+            }),
+        },
     }
 }

@@ -1,5 +1,7 @@
 // Reading a part of an object into one buffer of exactly its bytes.
-ghost use Rattle.std.specs.Prelude.{◌≡◌, length, IfOk};
+ghost use Rattle.std.specs.Prelude.{◌≡◌, length, IfOk, IfErr};
+ghost use Rattle.row_versions.specs.Looks.{IsLook};
+ghost use Rattle.lo_calls.specs.Reading.{ReadsPart, DeniesPart};
 
 use crate::session::refused;
 use crate::store::LoStore;
@@ -21,11 +23,17 @@ pub(crate) fn read_bytes(
     oid: Oid,
     at: u64,
     most: u64,
-) -> Result<Bytes, Denied> {
+) -> Result<Bytes, Denied>
+    requires kept { IsLook core.now.xacts snap.now }
+    ensures ok { IfOk result (ReadsPart core.now.xacts snap.now store.now.pages oid at most) }
+    ensures err { IfErr result (DeniesPart core.now.xacts snap.now store.now.pages oid at most) }
+{
     let size = store.pages.size(core, snap, oid);
     let count = size.saturating_sub(at).min(most);
     if count > READ_LIMIT {
-        return Err(refused(Cause::TooMuch, count as i64));
+        // No object has so many bytes that this could not be told.
+        let count = i64::try_from(count).unwrap_or(i64::MAX);
+        return Err(refused(Cause::TooMuch, count));
     }
     let mut bytes = zeros(alloc, count as usize)?;
     store.pages.read_into(core, snap, oid, at, &mut bytes);

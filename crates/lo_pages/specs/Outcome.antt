@@ -73,7 +73,7 @@ pub record Refuses (x : Transactions) (refused : List (Edit Deed) → Option Ref
   pub first : (ys : List (Edit Deed)) → StandFor x old ys → refused ys ≡ Some r
   pub same : new ≡ old
 
--- What a call found no memory for leaves: beside what was there, versions of the session's top level and the present clock.
+-- What a call leaves, whatever it answers: beside what was there, versions of the session's top level and the present clock.
 pub record LeavesOwn (x : Transactions) (s : ℕ) (old new : Pages) : Type 0 where
   pub adds : AddsOwnAll x s (stores_of old) (stores_of new)
 

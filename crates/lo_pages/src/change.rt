@@ -30,6 +30,7 @@ impl Pages {
             (made_now core.old.xacts s (Create oid) ∷ []) self.old self.new) }
         ensures err { IfErr result (Denies core.old.xacts s
             (create_refused core.old.xacts s oid) self.old self.new) }
+        ensures left { LeavesOwn core.old.xacts s self.old self.new }
         ensures goes { GoWith core.old.xacts self.new }
         ensures core { core.new ≡ core.old }
     {
@@ -62,6 +63,7 @@ impl Pages {
             (write_made core.old.xacts s oid at bytes.now) self.old self.new) }
         ensures err { IfErr result (Denies core.old.xacts s
             (write_refused core.old.xacts s oid at bytes.now) self.old self.new) }
+        ensures left { LeavesOwn core.old.xacts s self.old self.new }
         ensures goes { GoWith core.old.xacts self.new }
         ensures core { core.new ≡ core.old }
     {
@@ -97,6 +99,7 @@ impl Pages {
             (made_now core.old.xacts s (Cut oid to) ∷ []) self.old self.new) }
         ensures err { IfErr result (Denies core.old.xacts s
             (cut_refused core.old.xacts s oid to) self.old self.new) }
+        ensures left { LeavesOwn core.old.xacts s self.old self.new }
         ensures goes { GoWith core.old.xacts self.new }
         ensures core { core.new ≡ core.old }
     {
@@ -126,6 +129,7 @@ impl Pages {
             (made_now core.old.xacts s (Unlink oid) ∷ []) self.old self.new) }
         ensures err { IfErr result (Denies core.old.xacts s
             (drop_refused core.old.xacts s oid) self.old self.new) }
+        ensures left { LeavesOwn core.old.xacts s self.old self.new }
         ensures goes { GoWith core.old.xacts self.new }
         ensures core { core.new ≡ core.old }
     {

@@ -3,6 +3,7 @@ ghost use Rattle.std.specs.Prelude.{◌≡◌, ◌≤◌, ℕ, ℤ, false, List,
 ghost use Rattle.lo_base.specs.declared.value.Value.{Value};
 ghost use Rattle.lo_model.specs.declared.owner.Owner.TheVariants.{Running};
 ghost use Rattle.lo_model.specs.declared.viewer.Viewer.{Viewer};
+ghost use Rattle.lo_model.specs.Descriptor.{bytes_or_none};
 ghost use Rattle.lo_model.specs.Edit.{Deed, Put, Delete, Edit};
 ghost use Rattle.lo_model.specs.Levels.{released, undone, aborted, committed};
 ghost use Rattle.lo_model.specs.Numbering.{is_on};
@@ -81,6 +82,10 @@ pub fn pages_read()
     ensures others { (o clock : ℕ) (viewer : Viewer) (ys : List (Edit Deed)) (e : Edit Deed) →
         is_on o e.deed ≡ false →
         object_in o (view clock viewer (ys ++ e ∷ [])) ≡ object_in o (view clock viewer ys) }
+    // No object is larger than what pages with numbers of 32 bits hold.
+    ensures small { (x : Transactions) (v : Snapshot) (pages : Pages) (edits : List (Edit Deed)) →
+        ReadsAs x v pages edits → (o : ℕ) →
+        length (bytes_or_none (object_in o edits)) ≤ 8796093022208 }
 {}
 
 /// A view that has an edit has each earlier one that touched the same page and was not undone.
@@ -90,8 +95,8 @@ pub fn edits_closed()
         HasFirst (view clock viewer (at_page o b ys)) (at_page o b ys) }
 {}
 
-/// What a call that found no memory left: a view that does not see the session's top level reads what it read, and once that
-/// level is undone, pages stand for what is left of the edits, with the versions that stood before the call.
+/// What calls left, also where one found no memory: a view that does not see the session's top level reads what it read, and
+/// once that level is undone, pages stand for what is left of the edits, with the versions that stood before the calls.
 pub fn versions_left()
     ensures unseen { (x : Transactions) (s : ℕ) (old new : Pages) (v : Snapshot) (edits : List
         (Edit Deed)) → LeavesOwn x s old new →
@@ -108,4 +113,8 @@ pub fn versions_left()
     ensures gone { (s : ℕ) (old new : Transactions) (before after : Pages) →
         UndoesLevel s (length (levels_of old s)) old new → LeavesOwn old s before after →
         StandsAlike new before after }
+    // Calls in a row leave what each of them does, and one that did nothing leaves nothing.
+    ensures both { (x : Transactions) (s : ℕ) (a b c : Pages) → LeavesOwn x s a b →
+        LeavesOwn x s b c → LeavesOwn x s a c }
+    ensures same { (x : Transactions) (s : ℕ) (a : Pages) → LeavesOwn x s a a }
 {}

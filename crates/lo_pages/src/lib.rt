@@ -12,3 +12,6 @@ mod span;
 
 pub use law::{edits_closed, pages_go, pages_read, pages_stand, versions_left};
 pub use pages::{LARGEST_SIZE, PAGE_BYTES, Pages};
+
+#[cfg(test)]
+mod tests;

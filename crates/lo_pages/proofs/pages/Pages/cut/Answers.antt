@@ -5,7 +5,7 @@ use Rattle.lo_pages.specs.Outcome.{cut_refused, Denies, LeavesOwn}
 use Rattle.lo_pages.specs.Standing.{GoWith}
 use Rattle.lo_pages.specs.Steps.{PutsPage, PutsCut, ErasesFrom, found_now, page_sized}
 use Rattle.lo_pages.proofs.Adding.{is_large, is_small, cut_missing, cut_large, cut_busy, cut_done, denied_nothing}
-use Rattle.lo_pages.proofs.Steps.{left_more}
+use Rattle.lo_pages.proofs.Steps.{left_none, left_more}
 use Rattle.lo_pages.proofs.pages.Pages.cut.Goals as goal
 
 pub returns-then-not-is_there-clause-err : goal.returns-then-not-is_there-clause-err
@@ -38,3 +38,29 @@ returns-clause-ok c =
     let erased : ErasesFrom c.args.core.now.xacts c.args.s c.args.oid (c.args.to / 2048 + 1) c.cut_page.new.self c.erase_from.new.self = subst (λ (k : Core). ErasesFrom k.xacts c.args.s c.args.oid (c.args.to / 2048 + 1) c.cut_page.new.self c.erase_from.new.self) c.cut_page.ensures.core c.in_ok-erase_from.ensures.ok in
     let marked : PutsCut c.args.core.now.xacts c.args.s c.args.oid (c.args.to / 2048) c.erase_from.new.self c.mark_cut.new.self = subst (λ (k : Core). PutsCut k.xacts c.args.s c.args.oid (c.args.to / 2048) c.erase_from.new.self c.mark_cut.new.self) c.cut_page.ensures.core c.in_ok-mark_cut.ensures.ok in
     cut_done c.args.core.now.xacts c.args.s c.args.oid c.args.self.now c.is_there.ensures.session c.requires.open 4294967295 c.cut_page.new.self c.erase_from.new.self c.mark_cut.new.self c.args.to c.requires.whole (c.requires.goes.above c.args.oid) going (omega (arith, c.if-to-gt-LARGEST_SIZE.false)) (sym c.is_there.ensures.found ∙ c.if-not-is_there.false) (is_small 4398046509056 c.args.to (omega (arith, c.if-to-gt-LARGEST_SIZE.false))) c.in_default.ensures.ok.holder sized erased marked
+
+pub returns-then-not-is_there-clause-left : goal.returns-then-not-is_there-clause-left
+returns-then-not-is_there-clause-left c = left_none c.args.core.now.xacts c.args.s c.args.self.now
+
+pub returns-then-to-gt-LARGEST_SIZE-clause-left : goal.returns-then-to-gt-LARGEST_SIZE-clause-left
+returns-then-to-gt-LARGEST_SIZE-clause-left c = left_none c.args.core.now.xacts c.args.s c.args.self.now
+
+pub returns-in-Err-clause-left : goal.returns-in-Err-clause-left
+returns-in-Err-clause-left c = left_none c.args.core.now.xacts c.args.s c.args.self.now
+
+pub returns-in_err-erase_from-clause-left : goal.returns-in_err-erase_from-clause-left
+returns-in_err-erase_from-clause-left c =
+    let erased : LeavesOwn c.args.core.now.xacts c.args.s c.cut_page.new.self c.erase_from.new.self = subst (λ (k : Core). LeavesOwn k.xacts c.args.s c.cut_page.new.self c.erase_from.new.self) c.cut_page.ensures.core c.erase_from.ensures.left in
+    left_more c.args.core.now.xacts c.args.s c.args.self.now c.cut_page.new.self c.erase_from.new.self c.cut_page.ensures.left erased
+
+pub returns-in_err-mark_cut-clause-left : goal.returns-in_err-mark_cut-clause-left
+returns-in_err-mark_cut-clause-left c =
+    let erased : LeavesOwn c.args.core.now.xacts c.args.s c.cut_page.new.self c.erase_from.new.self = subst (λ (k : Core). LeavesOwn k.xacts c.args.s c.cut_page.new.self c.erase_from.new.self) c.cut_page.ensures.core c.erase_from.ensures.left in
+    let marked : LeavesOwn c.args.core.now.xacts c.args.s c.erase_from.new.self c.mark_cut.new.self = subst (λ (k : Core). LeavesOwn k.xacts c.args.s c.erase_from.new.self c.mark_cut.new.self) c.cut_page.ensures.core c.mark_cut.ensures.left in
+    left_more c.args.core.now.xacts c.args.s c.args.self.now c.erase_from.new.self c.mark_cut.new.self (left_more c.args.core.now.xacts c.args.s c.args.self.now c.cut_page.new.self c.erase_from.new.self c.cut_page.ensures.left erased) marked
+
+pub returns-clause-left : goal.returns-clause-left
+returns-clause-left c =
+    let erased : LeavesOwn c.args.core.now.xacts c.args.s c.cut_page.new.self c.erase_from.new.self = subst (λ (k : Core). LeavesOwn k.xacts c.args.s c.cut_page.new.self c.erase_from.new.self) c.cut_page.ensures.core c.erase_from.ensures.left in
+    let marked : LeavesOwn c.args.core.now.xacts c.args.s c.erase_from.new.self c.mark_cut.new.self = subst (λ (k : Core). LeavesOwn k.xacts c.args.s c.erase_from.new.self c.mark_cut.new.self) c.cut_page.ensures.core c.mark_cut.ensures.left in
+    left_more c.args.core.now.xacts c.args.s c.args.self.now c.erase_from.new.self c.mark_cut.new.self (left_more c.args.core.now.xacts c.args.s c.args.self.now c.cut_page.new.self c.erase_from.new.self c.cut_page.ensures.left erased) marked

@@ -2,7 +2,7 @@ use Rattle.std.proofs.Common.{sym, subst, ◌∙◌}
 use Rattle.lo_base.specs.declared.refusal.Denied.{Denied}
 use Rattle.lo_pages.specs.Outcome.{drop_refused, Denies}
 use Rattle.lo_pages.proofs.Adding.{drop_missing, drop_busy, drop_done, denied_nothing}
-use Rattle.lo_pages.proofs.Steps.{left_more}
+use Rattle.lo_pages.proofs.Steps.{left_none, left_more}
 use Rattle.lo_pages.proofs.pages.Pages.drop_object.Goals as goal
 
 pub returns-then-not-is_there-clause-err : goal.returns-then-not-is_there-clause-err
@@ -16,3 +16,15 @@ returns-clause-ok c = drop_done c.args.core.now.xacts c.args.s c.args.oid c.args
 
 pub returns-in_err-erase_object-clause-err : goal.returns-in_err-erase_object-clause-err
 returns-in_err-erase_object-clause-err c = denied_nothing c.args.core.now.xacts c.args.s (drop_refused c.args.core.now.xacts c.args.s c.args.oid) c.args.self.now c.erase_object.new.self c.from_residual-in_err-erase_object.result c.from_residual-in_err-erase_object.ensures.1 (left_more c.args.core.now.xacts c.args.s c.args.self.now c.erase_from.new.self c.erase_object.new.self c.erase_from.ensures.left c.erase_object.ensures.left)
+
+pub returns-then-not-is_there-clause-left : goal.returns-then-not-is_there-clause-left
+returns-then-not-is_there-clause-left c = left_none c.args.core.now.xacts c.args.s c.args.self.now
+
+pub returns-in-Err-clause-left : goal.returns-in-Err-clause-left
+returns-in-Err-clause-left c = left_none c.args.core.now.xacts c.args.s c.args.self.now
+
+pub returns-in_err-erase_object-clause-left : goal.returns-in_err-erase_object-clause-left
+returns-in_err-erase_object-clause-left c = left_more c.args.core.now.xacts c.args.s c.args.self.now c.erase_from.new.self c.erase_object.new.self c.erase_from.ensures.left c.erase_object.ensures.left
+
+pub returns-clause-left : goal.returns-clause-left
+returns-clause-left c = left_more c.args.core.now.xacts c.args.s c.args.self.now c.erase_from.new.self c.erase_object.new.self c.erase_from.ensures.left c.erase_object.ensures.left
