@@ -1,8 +1,13 @@
 pub mod Cancelling
 pub mod Closing
+pub mod Ending
 pub mod Entries
+pub mod Finding
 pub mod Getting
+pub mod Keeping
 pub mod Mapping
 pub mod Refusing
+pub mod Rows
 pub mod Seeing
+pub mod Telling
 pub mod Worlds

@@ -1,12 +1,12 @@
 // A session's calls on its descriptors. Each is the row of its name in DescriptorRows.
-ghost use Rattle.std.specs.Prelude.{◌≡◌, ◌<◌, ◌-◌, ◌^◌, ℕ, ℤ, pos, length, IfOk, IfErr, OnOk};
+ghost use Rattle.std.specs.Prelude.{◌≡◌, ◌<◌, ◌-◌, ◌^◌, ℕ, ℤ, pos, length, IfOk, IfErr, OnOk, Some, None};
 ghost use Rattle.lo_base.specs.declared.reply.Reply.TheVariants.{Number, Content};
 ghost use Rattle.lo_base.specs.declared.refusal.Denied.TheVariants.{By};
 ghost use Rattle.xact_core.specs.Kept.{kept_views};
 ghost use Rattle.xact_core.specs.Transactions.{Transactions};
 ghost use Rattle.lo_calls.specs.declared.store.LoStore.{LoStore};
 ghost use Rattle.lo_calls.specs.Descriptors.{AreHeld};
-ghost use Rattle.lo_calls.specs.DescriptorRows.{open_row, close_row, read_row, write_row, seek_row, tell_row, truncate_row};
+ghost use Rattle.lo_calls.specs.DescriptorRows.{open_row, close_row, read_row, write_row, seek_row, tell_row, truncate_row, position_range, may_read, may_write};
 ghost use Rattle.lo_calls.specs.World.{world, IsReady, Grants, Refuses, Denies, Keeps};
 
 use crate::descs::{Closing, Descriptor, Descs, MOST_DESCRIPTORS};
@@ -22,6 +22,9 @@ const INV_READ: i32 = 0x40000;
 
 /// The bit of a mode that asks for writing, with which a descriptor may also be read. The manual's name is INV_WRITE.
 const INV_WRITE: i32 = 0x20000;
+
+/// The greatest position that the calls without 64 answer.
+const GREATEST_INT4: u64 = 2147483647;
 
 /// The number of a session, and its open descriptors.
 #[derive(Drop)]
@@ -55,7 +58,7 @@ impl LoSession {
         if !store.pages.exists(core, &snap, oid) {
             return Err(refused(Cause::NoObject, i64::from(oid)));
         }
-        if mode & (INV_READ | INV_WRITE) == 0 {
+        if !may_read(mode) && !may_write(mode) {
             return Err(refused(Cause::BadMode, i64::from(mode)));
         }
         if self.descs.entries.len() >= MOST_DESCRIPTORS {
@@ -63,10 +66,10 @@ impl LoSession {
         }
         let number = self.descs.free_number();
         self.descs.make_room()?;
-        let hold = if mode & INV_WRITE == 0 {
-            Some(core.xacts.hold(snap)?)
-        } else {
+        let hold = if may_write(mode) {
             None
+        } else {
+            Some(core.xacts.hold(snap)?)
         };
         self.descs.entries.push_reserved(Descriptor {
             number,
@@ -198,10 +201,10 @@ impl LoSession {
         if target < 0 || target > i128::from(LARGEST_SIZE) {
             return Err(refusal(Cause::BadSeek, offset));
         }
-        let position = target as i64;
+        let position = target as u64;
         check_range(fd, position, wide)?;
-        self.descs.move_to(number, position as u64);
-        Ok(position)
+        self.descs.move_to(number, position);
+        Ok(target as i64)
     }
 
     /// The descriptor's position. It is refused with `NoDescriptor`, and unless `wide` with `PositionRange` where it is above
@@ -215,9 +218,10 @@ impl LoSession {
             (world x store self.now)) }
     {
         let index = self.descs.find(fd)?;
-        let position = self.descs.entries[index].position as i64;
+        let position = self.descs.entries[index].position;
         check_range(fd, position, wide)?;
-        Ok(position)
+        // Positions are below the greatest int8.
+        Ok(i64::try_from(position).unwrap_or(i64::MAX))
     }
 
     /// Gives the object of a descriptor a size. It is refused with `NoDescriptor`, with `NotWritable` where the descriptor was
@@ -277,9 +281,24 @@ impl LoSession {
     }
 }
 
+fn may_read(mode: i32) -> bool
+    ensures { result ≡ may_read mode }
+{
+    mode & INV_READ != 0
+}
+
+fn may_write(mode: i32) -> bool
+    ensures { result ≡ may_write mode }
+{
+    mode & INV_WRITE != 0
+}
+
 /// Refuses a position that has more than 31 bits, unless it may be wide.
-fn check_range(fd: i32, position: i64, wide: bool) -> Result<(), Refusal> {
-    if !wide && position > i64::from(i32::MAX) {
+fn check_range(fd: i32, position: u64, wide: bool) -> Result<(), Refusal>
+    ensures ok { OnOk result (position_range wide position fd ≡ None) }
+    ensures err { IfErr result (λ r. position_range wide position fd ≡ Some r) }
+{
+    if !wide && position > GREATEST_INT4 {
         return Err(refusal(Cause::PositionRange, i64::from(fd)));
     }
     Ok(())
