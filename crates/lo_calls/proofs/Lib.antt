@@ -1,5 +1,9 @@
 pub mod Busy
+pub mod Cancelling
+pub mod Closing
+pub mod Entries
 pub mod Getting
+pub mod Mapping
 pub mod Putting
 pub mod Refusing
 pub mod Seeing

@@ -1,10 +1,10 @@
 -- What a session's open descriptors stand for, which views they hold, and what closes some of them.
 use Rattle.std.specs.Prelude.{◌≡◌, ◌≤◌, ℕ, ℤ, pos, negsuc, Bool, false, not, ◌==◌, nat_le, List, [], ◌∷◌, ◌++◌, length, map, filter, flat_map, All, Option, Some, None, IsPermutation, slice_get}
+use Rattle.std.specs.List.{list_any}
 use Rattle.lo_model.specs.declared.viewer.Viewer.TheVariants.{Whole}
 use Rattle.lo_base.specs.declared.refusal.Cause.TheVariants.{NoDescriptor}
 use Rattle.lo_base.specs.declared.refusal.Refusal.{Refusal}
 use Rattle.lo_model.specs.Descriptor as model
-use Rattle.lo_pages.specs.Outcome.{largest_size}
 use Rattle.xact_core.specs.declared.snapshot.Snapshot.{Snapshot}
 use Rattle.xact_core.specs.Kept.{kept_views, HoldsOthers}
 use Rattle.xact_core.specs.Transactions.{Transactions}
@@ -52,10 +52,15 @@ abbrev pub IsOwnHold : (session : ℕ) → Option Snapshot → Type 0
 IsOwnHold s None = Unit {0}
 IsOwnHold s (Some hold) = hold.viewer ≡ Whole s
 
+-- No object has a byte from here on, since numbers of pages have 32 bits. Reading moves no descriptor behind it, and the other
+-- calls none behind the largest size.
+abbrev pub last_position : ℕ
+last_position = 8796093022208
+
 -- what each call keeps of a session's descriptors
 pub record AreOpen (x : Transactions) (s : ℕ) (descs : Descs) : Type 0 where
   pub most : length descs.entries.items ≤ 256
-  pub positions : All (λ (d : Descriptor). d.position ≤ largest_size) descs.entries.items
+  pub positions : All (λ (d : Descriptor). d.position ≤ last_position) descs.entries.items
   pub holds : All (λ (d : Descriptor). IsOwnHold s d.hold) descs.entries.items
   pub held : AreHeld x descs
 
@@ -72,6 +77,12 @@ left_open closing entries = filter (λ (d : Descriptor). not (closes closing d))
 pub record HoldsRest (before after : List Snapshot) (old new : Descs) : Type 0 where
   pub rest : (others : List Snapshot) → IsPermutation before (holds_of old ++ others) → IsPermutation after (holds_of new ++ others)
 
+-- A hold, where there is one, was given back.
+pub record GivesBack (hold : Option Snapshot) (x x' : Transactions) : Type 0 where
+  pub others : HoldsOthers x x'
+  pub order : IsPermutation x.held (held_by hold ++ x'.held)
+  pub views : length (kept_views x') ≤ length (kept_views x)
+
 -- Some descriptors ended, and each gave back what it held: of the transactions nothing else changes, and no view more is kept.
 pub record Ends (x x' : Transactions) (old new : Descs) : Type 0 where
   pub others : HoldsOthers x x'
@@ -83,6 +94,10 @@ pub record Ends (x x' : Transactions) (old new : Descs) : Type 0 where
 abbrev pub described_at : (fd : ℤ) → List model.Descriptor → Option model.Descriptor
 described_at (pos n) descriptors = model.descriptor_in n descriptors
 described_at (negsuc n) descriptors = None
+
+-- whether one of some descriptors has a number
+abbrev pub has_number : List Descriptor → (number : ℕ) → Bool
+has_number entries n = list_any (λ (d : Descriptor). d.number == n) entries
 
 -- It stands at an index, and is the first that has the number.
 pub record FindsDescriptor (fd : ℤ) (descs : Descs) (index : ℕ) : Type 0 where

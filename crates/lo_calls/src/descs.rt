@@ -1,10 +1,9 @@
 // A session's open descriptors, and what the ends of levels and transactions make of them. One loop closes descriptors, and
 // gives each one's hold back.
-ghost use Rattle.std.specs.Prelude.{◌≡◌, ◌≤◌, ◌<◌, ℕ, [], map, length, IfOk, IfErr, OnOk, vec_len, vec_capacity};
-ghost use Rattle.lo_model.specs.Descriptor.{descriptor_released, descriptors_below, free_number, is_number_taken, with_position};
-ghost use Rattle.lo_pages.specs.Outcome.{largest_size};
+ghost use Rattle.std.specs.Prelude.{◌≡◌, ◌≤◌, ◌<◌, ℕ, [], map, length, IfOk, IfErr, IfSome, OnOk, Contains, vec_len, vec_capacity};
+ghost use Rattle.lo_model.specs.Descriptor.{descriptor_released, descriptors_below, free_number, with_position};
 ghost use Rattle.xact_core.specs.Transactions.{Transactions};
-ghost use Rattle.lo_calls.specs.Descriptors.{descriptors_of, holds_of, AreOpen, AreHeld, Ends, FindsDescriptor, FindsNone, closes, left_open};
+ghost use Rattle.lo_calls.specs.Descriptors.{descriptors_of, holds_of, AreOpen, AreHeld, Ends, GivesBack, FindsDescriptor, FindsNone, has_number, last_position, closes, left_open};
 
 use lo_base::{Cause, NoMemory, Oid, Refusal};
 use std::alloc::Global;
@@ -93,10 +92,8 @@ impl Descs {
         let mut index = 0;
         while index < self.entries.len() {
             if closes(closing, &self.entries[index]) {
-                let ended = self.entries.remove(index);
-                if let Some(hold) = ended.hold {
-                    xacts.let_go(hold);
-                }
+                let closed = self.entries.remove(index);
+                give_back(xacts, closed.hold);
             } else {
                 index += 1;
             }
@@ -117,33 +114,33 @@ impl Descs {
         ensures ok { IfOk result (FindsDescriptor fd self.now) }
         ensures err { IfErr result (FindsNone fd self.now) }
     {
-        let found = match u32::try_from(fd) {
-            Ok(number) => self.entries.iter().position(|d| d.number == number),
-            Err(_) => None,
-        };
-        match found {
-            Some(index) => Ok(index),
-            None => Err(Refusal {
-                cause: Cause::NoDescriptor,
-                subject: i64::from(fd),
-            }),
+        for (index, descriptor) in self.entries.iter().enumerate() {
+            if i64::from(descriptor.number) == i64::from(fd) {
+                return Ok(index);
+            }
         }
+        Err(Refusal {
+            cause: Cause::NoDescriptor,
+            subject: i64::from(fd),
+        })
     }
 
-    /// The lowest number that no open descriptor has.
+    /// The lowest number that no open descriptor has. It is at most their count.
     pub(crate) fn free_number(&self) -> u32
         requires most { length self.now.entries.items ≤ 256 }
         ensures { result ≡ free_number (descriptors_of self.now) }
     {
-        let mut number = 0;
-        while self.is_taken(number) {
-            number += 1;
+        let count = self.entries.len() as u32;
+        for number in 0..count {
+            if !self.is_taken(number) {
+                return number;
+            }
         }
-        number
+        count
     }
 
     fn is_taken(&self, number: u32) -> bool
-        ensures { result ≡ is_number_taken (descriptors_of self.now) number }
+        ensures { result ≡ has_number self.now.entries.items number }
     {
         self.entries.iter().any(|d| d.number == number)
     }
@@ -153,7 +150,7 @@ impl Descs {
         ensures moved { descriptors_of self.new ≡ with_position number position
             (descriptors_of self.old) }
         ensures holds { holds_of self.new ≡ holds_of self.old }
-        ensures open { (x : Transactions) (s : ℕ) → position ≤ largest_size →
+        ensures open { (x : Transactions) (s : ℕ) → position ≤ last_position →
             AreOpen x s self.old → AreOpen x s self.new }
     {
         for descriptor in self.entries.iter_mut() {
@@ -161,6 +158,17 @@ impl Descs {
                 descriptor.position = position;
             }
         }
+    }
+}
+
+/// Gives a closed descriptor's hold back.
+fn give_back(xacts: &mut Xacts, hold: Option<Hold>)
+    requires { IfSome hold (Contains xacts.old.held) }
+    ensures { GivesBack hold xacts.old xacts.new }
+{
+    match hold {
+        Some(hold) => xacts.let_go(hold),
+        None => {}
     }
 }
 
