@@ -1,3 +1,4 @@
+pub mod Busy
 pub mod Cancelling
 pub mod Closing
 pub mod Ending
@@ -6,6 +7,7 @@ pub mod Finding
 pub mod Getting
 pub mod Keeping
 pub mod Mapping
+pub mod Putting
 pub mod Refusing
 pub mod Rows
 pub mod Seeing

@@ -29,3 +29,12 @@ refused_by P (Err d) r is p = subst P (sym is) p
 
 pub few_enough : (n : ℕ) → n ≤ 16777216 → too_much n ≡ None
 few_enough n few = fails (nat_lt 16777216 n) TooMuch (pos n) (grind (arith, nat_tests, few))
+
+pub skip_second : (first term : Option Refusal) (terms : List (Option Refusal)) → term ≡ None → first_of (first ∷ term ∷ terms) ≡ first_of (first ∷ terms)
+skip_second None term terms none = skip term terms none
+skip_second (Some r) term terms none = refl
+
+-- the exit of a `?` that hands on why a call was denied
+pub denied_by : {T : Type 0} (P : Denied → Type 0) (result : Result T Denied) (d : Denied) → IsErrAnd result (λ e. e ≡ d) → P d → IfErr result P
+denied_by P (Ok x) d is p = absurd is
+denied_by P (Err e) d is p = subst P (sym is) p
