@@ -3,6 +3,7 @@ use Rattle.std.proofs.Common.{ℕ, zero, suc, ◌+◌, ◌-◌, ◌<◌, ◌≤�
 use Rattle.std.specs.Prelude.{IsPermutation, Contains, remove, All, IfSome, filter, not, nat_le, nat_lt, ◌==◌}
 use Rattle.std.proofs.Math.Seq.{take-append_seam}
 use Rattle.std.proofs.lemmas.Bool.Decides.{nat_tests}
+use Rattle.std.proofs.lemmas.Grind.{flat_map-append}
 use Rattle.std.proofs.lemmas.List.Edits.{length-remove}
 use Rattle.std.proofs.lemmas.List.Elements.{All-append, All-take, All-drop, filter-append}
 use Rattle.std.proofs.lemmas.List.Sorted.{IsPermutation-refl, IsPermutation-sym, IsPermutation-trans, IsPermutation-append_comm, IsPermutation-append_left, Contains-permutation}
@@ -41,9 +42,8 @@ holds_both x y z first second = record {
 pub gives_none : (hold : Option Snapshot) (x : Transactions) → hold ≡ None → GivesBack hold x x
 gives_none hold x none = record { others = holds_same x; order = rw none (IsPermutation-refl x.held); whole = λ before. before; views = omega arith }
 
-holds_append : (xs ys : List Descriptor) → holds_in (xs ++ ys) ≡ holds_in xs ++ holds_in ys
-holds_append [] ys = refl
-holds_append (d ∷ xs) ys = ap (λ (views : List Snapshot). held_by d.hold ++ views) (holds_append xs ys) ∙ sym (append_assoc (held_by d.hold) (holds_in xs) (holds_in ys))
+pub holds_append : (xs ys : List Descriptor) → holds_in (xs ++ ys) ≡ holds_in xs ++ holds_in ys
+holds_append xs ys = flat_map-append (λ (d : Descriptor). held_by d.hold) xs ys
 
 pub parted : (entries : List Descriptor) (i : ℕ) (d : Descriptor) → i < length entries → d ≡ get_or entries i d → take i entries ++ d ∷ drop (suc i) entries ≡ entries
 parted entries i d within is = ap (λ (rest : List Descriptor). take i entries ++ rest) (sym (rest_from entries i d within is)) ∙ take-append-drop i entries

@@ -7,6 +7,8 @@ pub mod Finding
 pub mod Getting
 pub mod Keeping
 pub mod Mapping
+pub mod Modes
+pub mod Opening
 pub mod Putting
 pub mod Refusing
 pub mod Rows

@@ -1,21 +1,23 @@
 // A session's calls on its descriptors. Each is the row of its name in DescriptorRows.
-ghost use Rattle.std.specs.Prelude.{◌≡◌, ◌<◌, ◌-◌, ◌^◌, ℕ, ℤ, pos, length, IfOk, IfErr, OnOk, Some, None};
+ghost use Rattle.std.specs.Prelude.{◌≡◌, ◌<◌, ◌-◌, ◌^◌, ℕ, ℤ, pos, length, IfOk, IfErr, OnOk, OnErr, Contains, ◌||◌, Some, None};
 ghost use Rattle.lo_base.specs.declared.reply.Reply.TheVariants.{Number, Content};
 ghost use Rattle.lo_base.specs.declared.refusal.Denied.TheVariants.{By};
 ghost use Rattle.xact_core.specs.Kept.{kept_views};
 ghost use Rattle.xact_core.specs.Transactions.{Transactions};
 ghost use Rattle.lo_calls.specs.declared.store.LoStore.{LoStore};
 ghost use Rattle.lo_calls.specs.Descriptors.{AreHeld};
+ghost use Rattle.lo_calls.specs.Opened.{HoldsFor};
 ghost use Rattle.lo_calls.specs.DescriptorRows.{open_row, close_row, read_row, write_row, seek_row, tell_row, truncate_row, position_range, may_read, may_write};
 ghost use Rattle.lo_calls.specs.World.{world, IsReady, Grants, Refuses, Denies, Keeps};
 
 use crate::descs::{Closing, Descriptor, Descs, MOST_DESCRIPTORS};
+use crate::object_calls::no_object;
 use crate::reading::read_bytes;
 use crate::store::LoStore;
-use lo_base::{Bytes, Cause, Denied, Oid, Refusal, SessionNo};
+use lo_base::{Bytes, Cause, Denied, NoMemory, Oid, Refusal, SessionNo};
 use lo_pages::LARGEST_SIZE;
 use row_versions::Core;
-use xact_core::Snapshot;
+use xact_core::{Hold, Snapshot};
 
 /// The bit of a mode that asks for reading. The manual's name is INV_READ.
 const INV_READ: i32 = 0x40000;
@@ -56,9 +58,9 @@ impl LoSession {
     {
         let snap = core.xacts.snapshot(self.s);
         if !store.pages.exists(core, &snap, oid) {
-            return Err(refused(Cause::NoObject, i64::from(oid)));
+            return Err(no_object(oid));
         }
-        if !may_read(mode) && !may_write(mode) {
+        if !is_mode(mode) {
             return Err(refused(Cause::BadMode, i64::from(mode)));
         }
         if self.descs.entries.len() >= MOST_DESCRIPTORS {
@@ -66,11 +68,7 @@ impl LoSession {
         }
         let number = self.descs.free_number();
         self.descs.make_room()?;
-        let hold = if may_write(mode) {
-            None
-        } else {
-            Some(core.xacts.hold(snap)?)
-        };
+        let hold = hold_view(core, snap, mode)?;
         self.descs.entries.push_reserved(Descriptor {
             number,
             oid,
@@ -259,7 +257,7 @@ impl LoSession {
         if store.pages.exists(core, &snap, oid) {
             refused(Cause::BadTruncate, len)
         } else {
-            refused(Cause::NoObject, i64::from(oid))
+            no_object(oid)
         }
     }
 
@@ -279,6 +277,27 @@ impl LoSession {
             None => core.xacts.snapshot(self.s),
         }
     }
+}
+
+/// Holds the view that a descriptor of a mode reads in, where it may not write.
+fn hold_view(core: &mut Core, snap: Snapshot, mode: i32) -> Result<Option<Hold>, NoMemory>
+    requires kept { Contains (kept_views core.old.xacts) snap }
+    requires views { length (kept_views core.old.xacts) < 2 ^ 64 - 4 }
+    ensures ok { IfOk result (HoldsFor mode snap core.old.xacts core.new.xacts) }
+    ensures err { OnErr result (core.new ≡ core.old) }
+{
+    if may_write(mode) {
+        return Ok(None);
+    }
+    let hold = core.xacts.hold(snap)?;
+    Ok(Some(hold))
+}
+
+/// Whether a mode has one of the bits that count.
+fn is_mode(mode: i32) -> bool
+    ensures { result ≡ (may_read mode || may_write mode) }
+{
+    may_read(mode) || may_write(mode)
 }
 
 fn may_read(mode: i32) -> bool
