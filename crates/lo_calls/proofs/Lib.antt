@@ -6,6 +6,7 @@ pub mod Entries
 pub mod Finding
 pub mod Getting
 pub mod Keeping
+pub mod Looking
 pub mod Mapping
 pub mod Modes
 pub mod Opening
@@ -13,5 +14,6 @@ pub mod Putting
 pub mod Refusing
 pub mod Rows
 pub mod Seeing
+pub mod Sizing
 pub mod Telling
 pub mod Worlds
