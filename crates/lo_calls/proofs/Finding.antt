@@ -1,5 +1,6 @@
 -- The descriptor of a number: where it stands, and that none is a refusal.
 use Rattle.std.proofs.Common.{◌≡◌, ◌<◌, ℕ, ℤ, pos, List, [], ◌∷◌, length, vec_len, get_or, arith, Option, Some, None, refl, ap, sym, subst, ◌∙◌}
+use Rattle.std.specs.Prelude.{Contains}
 use Rattle.std.proofs.lemmas.Option.{slice_get_within, get_or_from_slice_get}
 use Rattle.lo_base.specs.declared.refusal.Refusal.{Refusal}
 use Rattle.lo_model.specs.Edit.{Deed, Edit}
@@ -7,7 +8,7 @@ use Rattle.lo_pages.specs.Outcome.{first_of}
 use Rattle.lo_calls.specs.Access.{FindsWritable}
 use Rattle.lo_calls.specs.declared.descs.Descriptor.{Descriptor}
 use Rattle.lo_calls.specs.declared.descs.Descs.{Descs}
-use Rattle.lo_calls.specs.Descriptors.{described_by, FindsDescriptor, FindsNone}
+use Rattle.lo_calls.specs.Descriptors.{described_by, described_at, descriptors_of, FindsDescriptor, FindsNone}
 use Rattle.lo_calls.specs.DescriptorRows.{no_descriptor, descriptor_of}
 use Rattle.lo_calls.specs.Row.{Here, Row}
 use Rattle.lo_calls.specs.World.{World, here_of, Refuses}
@@ -32,3 +33,9 @@ found_number fd descs index d finds is = finds.number ∙ ap (λ (e : Descriptor
 
 pub finds_writable : (fd : ℤ) (descs : Descs) (index : ℕ) (d : Descriptor) → FindsDescriptor fd descs index → d ≡ get_or descs.entries.items index d → d.hold ≡ None → FindsWritable fd descs index
 finds_writable fd descs index d finds is writes = record { finds = finds; writes = ap (λ (e : Descriptor). e.hold) (sym (found_there fd descs index finds d is)) ∙ writes }
+
+pub found_is : (fd : ℤ) (descs : Descs) (index : ℕ) (d : Descriptor) → FindsDescriptor fd descs index → d ≡ get_or descs.entries.items index d → described_at fd (descriptors_of descs) ≡ Some (described_by d)
+found_is fd descs index d finds is = finds.found ∙ ap (λ (e : Descriptor). Some (described_by e)) (sym (found_there fd descs index finds d is))
+
+pub found_among : (fd : ℤ) (descs : Descs) (index : ℕ) (d : Descriptor) → FindsDescriptor fd descs index → d ≡ get_or descs.entries.items index d → Contains descs.entries.items d
+found_among fd descs index d finds is = (index, found_within fd descs index finds, sym is)

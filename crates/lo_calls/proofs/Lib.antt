@@ -14,6 +14,7 @@ pub mod Putting
 pub mod Refusing
 pub mod Rows
 pub mod Seeing
+pub mod Seeking
 pub mod Sizing
 pub mod Telling
 pub mod Worlds

@@ -38,3 +38,8 @@ skip_second (Some r) term terms none = refl
 pub denied_by : {T : Type 0} (P : Denied → Type 0) (result : Result T Denied) (d : Denied) → IsErrAnd result (λ e. e ≡ d) → P d → IfErr result P
 denied_by P (Ok x) d is p = absurd is
 denied_by P (Err e) d is p = subst P (sym is) p
+
+-- the exit of a `?` that hands an error on
+pub failed_with : {T E : Type 0} (P : E → Type 0) (result : Result T E) (d : E) → IsErrAnd result (λ e. e ≡ d) → P d → IfErr result P
+failed_with P (Ok x) d is p = absurd is
+failed_with P (Err e) d is p = subst P (sym is) p
