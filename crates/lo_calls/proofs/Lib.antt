@@ -7,4 +7,5 @@ pub mod Mapping
 pub mod Putting
 pub mod Refusing
 pub mod Seeing
+pub mod Unlinking
 pub mod Worlds
