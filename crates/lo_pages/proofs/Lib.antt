@@ -9,6 +9,7 @@ mod Examples
 pub mod Filling
 pub mod Finding
 pub mod Folds
+pub mod HeldPages
 pub mod Holding
 pub mod Keys
 pub mod Looping
