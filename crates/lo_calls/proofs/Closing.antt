@@ -51,7 +51,6 @@ parted entries i d within is = ap (λ (rest : List Descriptor). take i entries +
 middle_first : (front middle back : List Snapshot) → IsPermutation (front ++ (middle ++ back)) (middle ++ (front ++ back))
 middle_first front middle back = let moved = IsPermutation-append_left back (front ++ middle) (middle ++ front) (IsPermutation-append_comm front middle) in simp append_assoc at moved
 
-
 hold_first : (entries : List Descriptor) (i : ℕ) (d : Descriptor) → i < length entries → d ≡ get_or entries i d → IsPermutation (holds_in entries) (held_by d.hold ++ holds_in (remove entries i))
 hold_first entries i d within is =
     subst (λ (all : List Descriptor). IsPermutation (holds_in all) (held_by d.hold ++ holds_in (remove entries i))) (parted entries i d within is)
@@ -68,7 +67,6 @@ hold_rest entries i d rest within is = IsPermutation-append_left rest (holds_in 
 pub hold_there : (x : Transactions) (descs : Descs) (i : ℕ) (d : Descriptor) → i < length descs.entries.items → d ≡ get_or descs.entries.items i d → AreHeld x descs → IfSome d.hold (Contains x.held)
 hold_there x descs i d within is held = among d.hold x.held (holds_in (remove descs.entries.items i)) held.rest (IsPermutation-trans x.held (holds_of descs ++ held.rest) _ held.all (hold_rest descs.entries.items i d held.rest within is))
 
-
 back : (hold : Option Snapshot) (before after : List Snapshot) → IsPermutation (held_by hold ++ before) (held_by hold ++ after) → IsPermutation before after
 back None before after both = both
 back (Some v) before after both = cancelled v before after both
@@ -79,11 +77,11 @@ one_ends x x' old new i d within is left gives = record {
   holds = record { rest = rest_of };
   views = gives.views;
   remain = λ s before. record {
-  most = let shorter = ap (λ (entries : List Descriptor). length entries) left in omega (arith, shorter, length-remove old.entries.items i within, before.most);
-  positions = rw left (all_left (λ (e : Descriptor). e.position ≤ last_position) before.positions);
-  holds = rw left (all_left (λ (e : Descriptor). IsOwnHold s e.hold) before.holds);
-  held = record { rest = before.held.rest; all = rest_of before.held.rest before.held.all };
-};
+    most = let shorter = ap (λ (entries : List Descriptor). length entries) left in omega (arith, shorter, length-remove old.entries.items i within, before.most);
+    positions = rw left (all_left (λ (e : Descriptor). e.position ≤ last_position) before.positions);
+    holds = rw left (all_left (λ (e : Descriptor). IsOwnHold s e.hold) before.holds);
+    held = record { rest = before.held.rest; all = rest_of before.held.rest before.held.all };
+  };
 }
   where
     all_left : (P : Descriptor → Type 0) → All P old.entries.items → All P (remove old.entries.items i)
@@ -119,7 +117,6 @@ pub front_without : (entries : List Descriptor) (i : ℕ) → i < length entries
 front_without entries i within =
     let front : length (take i entries) ≡ i = omega (arith, length-take i entries) in
     subst (λ (n : ℕ). take n (remove entries i) ≡ take i entries) front (take-append_seam (take i entries) (drop (suc i) entries))
-
 
 -- What contracts see of the rest
 

@@ -1,6 +1,7 @@
 pub mod Busy
 pub mod Cancelling
 pub mod Closing
+pub mod Creating
 pub mod Entries
 pub mod Getting
 pub mod Mapping

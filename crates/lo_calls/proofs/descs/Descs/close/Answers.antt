@@ -28,9 +28,9 @@ loop-index-preserved-then-closes c =
     let shorter = ap (λ (entries : List Descriptor). length entries) c.remove-closed.ensures.items in
     let front = ap (λ (entries : List Descriptor). take c.loop-index.index entries) c.remove-closed.ensures.items ∙ front_without c.loop-index.self.entries.items c.loop-index.index within in
     record {
-  within = omega (arith, shorter, length-remove c.loop-index.self.entries.items c.loop-index.index within);
-  front = ap (left_open c.args.closing.now) front ∙ c.loop-index.invariant.front ∙ sym front;
-  left = ap (left_open c.args.closing.now) c.remove-closed.ensures.items ∙ left_without c.args.closing.now c.loop-index.self.entries.items c.loop-index.index c.index.result.now within c.index.ensures (sym c.if-closes.ensures) ∙ c.loop-index.invariant.left;
-  held = record { rest = c.loop-index.invariant.held.rest; all = ends.holds.rest c.loop-index.invariant.held.rest c.loop-index.invariant.held.all };
-  ends = ends_both c.args.xacts.now c.loop-index.xacts c.give_back.new.xacts c.args.self.now c.loop-index.self left c.loop-index.invariant.ends ends;
-}
+      within = omega (arith, shorter, length-remove c.loop-index.self.entries.items c.loop-index.index within);
+      front = ap (left_open c.args.closing.now) front ∙ c.loop-index.invariant.front ∙ sym front;
+      left = ap (left_open c.args.closing.now) c.remove-closed.ensures.items ∙ left_without c.args.closing.now c.loop-index.self.entries.items c.loop-index.index c.index.result.now within c.index.ensures (sym c.if-closes.ensures) ∙ c.loop-index.invariant.left;
+      held = record { rest = c.loop-index.invariant.held.rest; all = ends.holds.rest c.loop-index.invariant.held.rest c.loop-index.invariant.held.all };
+      ends = ends_both c.args.xacts.now c.loop-index.xacts c.give_back.new.xacts c.args.self.now c.loop-index.self left c.loop-index.invariant.ends ends;
+    }

@@ -8,7 +8,7 @@ invariant-loop-index l = record {
   front : left_open l.closing (take l.index l.self.entries.items) ≡ take l.index l.self.entries.items;
   left : left_open l.closing l.self.entries.items ≡ left_open l.closing l.fn.self.entries.items;
   held : AreHeld l.xacts l.self;
-  ends : Ends l.fn.xacts l.xacts l.fn.self l.self
+  ends : Ends l.fn.xacts l.xacts l.fn.self l.self;
 }
 
 abbrev pub decreases-loop-index : goal.decreases-loop-index

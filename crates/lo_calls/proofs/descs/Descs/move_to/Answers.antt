@@ -11,8 +11,9 @@ pub loop-descriptor-preserved : goal.loop-descriptor-preserved
 loop-descriptor-preserved c =
     let within : c.loop-descriptor.descriptor-index < length c.loop-descriptor.descriptor-items = omega arith in
     elim c.if-descriptor-number.branch [
-    then-descriptor-number w ↦ fronted_more (entry_moved c.args.number c.args.position) c.loop-descriptor.descriptor-index c.args.self.now.entries.items c.loop-descriptor.descriptor-items _ c.descriptor-item.result _ c.loop-descriptor.invariant within (moved_one c.args.number c.args.position _ w.if-descriptor-number.true) w.descriptor-items-is
-    | else-descriptor-number w ↦ fronted_more (entry_moved c.args.number c.args.position) c.loop-descriptor.descriptor-index c.args.self.now.entries.items c.loop-descriptor.descriptor-items _ c.descriptor-item.result _ c.loop-descriptor.invariant within (moved_other c.args.number c.args.position _ w.if-descriptor-number.false) w.descriptor-items-is ]
+      | then-descriptor-number w ↦ fronted_more (entry_moved c.args.number c.args.position) c.loop-descriptor.descriptor-index c.args.self.now.entries.items c.loop-descriptor.descriptor-items _ c.descriptor-item.result _ c.loop-descriptor.invariant within (moved_one c.args.number c.args.position _ w.if-descriptor-number.true) w.descriptor-items-is
+      | else-descriptor-number w ↦ fronted_more (entry_moved c.args.number c.args.position) c.loop-descriptor.descriptor-index c.args.self.now.entries.items c.loop-descriptor.descriptor-items _ c.descriptor-item.result _ c.loop-descriptor.invariant within (moved_other c.args.number c.args.position _ w.if-descriptor-number.false) w.descriptor-items-is
+    ]
 
 pub returns-clause-moved : goal.returns-clause-moved
 returns-clause-moved c =
