@@ -3,6 +3,7 @@ use Rattle.std.proofs.Common.{ℕ, zero, suc, ◌+◌, ◌-◌, ◌<◌, ◌≤�
 use Rattle.std.specs.Prelude.{IsPermutation, Contains, remove, All, IfSome, filter, not, nat_le, nat_lt, ◌==◌}
 use Rattle.std.proofs.Math.Seq.{take-append_seam}
 use Rattle.std.proofs.lemmas.Bool.Decides.{nat_tests}
+use Rattle.std.proofs.lemmas.Grind.{flat_map-append}
 use Rattle.std.proofs.lemmas.List.Edits.{length-remove}
 use Rattle.std.proofs.lemmas.List.Elements.{All-append, All-take, All-drop, filter-append}
 use Rattle.std.proofs.lemmas.List.Sorted.{IsPermutation-refl, IsPermutation-sym, IsPermutation-trans, IsPermutation-append_comm, IsPermutation-append_left, Contains-permutation}
@@ -39,11 +40,10 @@ holds_both x y z first second = record {
 -- One descriptor that ends
 
 pub gives_none : (hold : Option Snapshot) (x : Transactions) → hold ≡ None → GivesBack hold x x
-gives_none hold x none = record { others = holds_same x; order = rw none (IsPermutation-refl x.held); views = omega arith }
+gives_none hold x none = record { others = holds_same x; order = rw none (IsPermutation-refl x.held); whole = λ before. before; views = omega arith }
 
-holds_append : (xs ys : List Descriptor) → holds_in (xs ++ ys) ≡ holds_in xs ++ holds_in ys
-holds_append [] ys = refl
-holds_append (d ∷ xs) ys = ap (λ (views : List Snapshot). held_by d.hold ++ views) (holds_append xs ys) ∙ sym (append_assoc (held_by d.hold) (holds_in xs) (holds_in ys))
+pub holds_append : (xs ys : List Descriptor) → holds_in (xs ++ ys) ≡ holds_in xs ++ holds_in ys
+holds_append xs ys = flat_map-append (λ (d : Descriptor). held_by d.hold) xs ys
 
 pub parted : (entries : List Descriptor) (i : ℕ) (d : Descriptor) → i < length entries → d ≡ get_or entries i d → take i entries ++ d ∷ drop (suc i) entries ≡ entries
 parted entries i d within is = ap (λ (rest : List Descriptor). take i entries ++ rest) (sym (rest_from entries i d within is)) ∙ take-append-drop i entries
@@ -75,6 +75,7 @@ pub one_ends : (x x' : Transactions) (old new : Descs) (i : ℕ) (d : Descriptor
 one_ends x x' old new i d within is left gives = record {
   others = gives.others;
   holds = record { rest = rest_of };
+  whole = gives.whole;
   views = gives.views;
   remain = λ s before. record {
     most = let shorter = ap (λ (entries : List Descriptor). length entries) left in omega (arith, shorter, length-remove old.entries.items i within, before.most);
@@ -96,12 +97,13 @@ one_ends x x' old new i d within is left gives = record {
 -- Ends, one after another
 
 pub ends_same : (x : Transactions) (descs : Descs) → Ends x x descs descs
-ends_same x descs = record { others = holds_same x; holds = record { rest = λ others all. all }; views = omega arith; remain = λ s before. before }
+ends_same x descs = record { others = holds_same x; holds = record { rest = λ others all. all }; whole = λ before. before; views = omega arith; remain = λ s before. before }
 
 pub ends_both : (x y z : Transactions) (first second third : Descs) → Ends x y first second → Ends y z second third → Ends x z first third
 ends_both x y z first second third one two = record {
   others = holds_both x y z one.others two.others;
   holds = record { rest = λ others all. two.holds.rest others (one.holds.rest others all) };
+  whole = λ before. two.whole (one.whole before);
   views = omega (arith, one.views, two.views);
   remain = λ s before. two.remain s (one.remain s before);
 }

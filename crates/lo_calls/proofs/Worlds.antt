@@ -15,12 +15,15 @@ use Rattle.lo_pages.specs.Outcome as pages
 use Rattle.lo_pages.specs.Standing.{GoWith, StandFor}
 use Rattle.lo_calls.specs.declared.session.LoSession.{LoSession}
 use Rattle.lo_calls.specs.declared.store.LoStore.{LoStore}
-use Rattle.lo_calls.specs.Descriptors.{descriptors_of}
+use Rattle.lo_calls.specs.Descriptors.{descriptors_of, holds_of}
 use Rattle.lo_calls.specs.Row.{Here, Granted, Row}
-use Rattle.lo_calls.specs.World.{World, world, here_of, counter_end, IsReady, IsGranted, Grants, Refuses, FindsNoMemory, Denies, Keeps}
+use Rattle.lo_calls.specs.World.{World, world, here_of, counter_end, IsReady, IsGranted, Grants, Refuses, IsSameSession, FindsNoMemory, Denies, Keeps}
+
+same_session : (old new : LoSession) → new ≡ old → IsSameSession old new
+same_session old new is = record { number = ap (λ (s : LoSession). s.s) is; descriptors = ap (λ (s : LoSession). descriptors_of s.descs) is; holds = ap (λ (s : LoSession). holds_of s.descs) is }
 
 pub no_memory : (old new : World) → LeavesOwn old.xacts old.session.s old.store.pages new.store.pages → new.store.counter ≡ old.store.counter → new.session ≡ old.session → new.xacts ≡ old.xacts → FindsNoMemory old new
-no_memory old new left counter session xacts = record { pages = left; counter = counter; session = session; xacts = xacts }
+no_memory old new left counter session xacts = record { pages = left; counter = counter; session = same_session old.session new.session session; xacts = xacts }
 
 pub others_same : (x : Transactions) → HoldsOthers x x
 others_same x = record { rest = refl; kept = λ v held. held_kept x v held }

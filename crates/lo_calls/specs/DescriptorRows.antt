@@ -156,9 +156,9 @@ bad_seek here offset whence d = when (is_outside largest_size (seek_target here 
 abbrev pub greatest_int4 : ℕ
 greatest_int4 = 2147483647
 
-abbrev pub position_range : (wide : Bool) → (position : ℕ) → Descriptor → Option Refusal
-position_range true position d = None
-position_range false position d = when (nat_lt greatest_int4 position) PositionRange (pos d.number)
+abbrev pub position_range : (wide : Bool) → (position : ℕ) → (fd : ℤ) → Option Refusal
+position_range true position fd = None
+position_range false position fd = when (nat_lt greatest_int4 position) PositionRange fd
 
 abbrev pub seek_at : Here → (offset whence : ℤ) → Descriptor → Granted
 seek_at here offset whence d =
@@ -171,7 +171,7 @@ seek_row wide fd offset whence here = record {
       no_descriptor here fd
       ∷ bad_whence whence
       ∷ of_descriptor (bad_seek here offset whence) (descriptor_of here fd)
-      ∷ of_descriptor (λ d. position_range wide (count_of (seek_target here offset whence d)) d) (descriptor_of here fd)
+      ∷ of_descriptor (λ d. position_range wide (count_of (seek_target here offset whence d)) (pos d.number)) (descriptor_of here fd)
       ∷ [];
   granted = at_descriptor here (seek_at here offset whence) (descriptor_of here fd);
 }
@@ -181,7 +181,7 @@ seek_row wide fd offset whence here = record {
 abbrev pub tell_row : (wide : Bool) → (fd : ℤ) → Here → Row
 tell_row wide fd here = record {
   refusals =
-      no_descriptor here fd ∷ of_descriptor (λ d. position_range wide d.position d) (descriptor_of here fd) ∷ [];
+      no_descriptor here fd ∷ of_descriptor (λ d. position_range wide d.position (pos d.number)) (descriptor_of here fd) ∷ [];
   granted = at_descriptor here (λ d. answered here (Number (pos d.position))) (descriptor_of here fd);
 }
 

@@ -6,7 +6,7 @@ use Rattle.lo_base.specs.declared.refusal.Cause.TheVariants.{NoDescriptor}
 use Rattle.lo_base.specs.declared.refusal.Refusal.{Refusal}
 use Rattle.lo_model.specs.Descriptor as model
 use Rattle.xact_core.specs.declared.snapshot.Snapshot.{Snapshot}
-use Rattle.xact_core.specs.Kept.{kept_views, HoldsOthers}
+use Rattle.xact_core.specs.Kept.{kept_views, HoldsOthers, HoldsWholeViews}
 use Rattle.xact_core.specs.Transactions.{Transactions}
 use Rattle.lo_calls.specs.declared.descs.Closing.{Closing}
 use Rattle.lo_calls.specs.declared.descs.Closing.TheVariants.{FromLevel, OnObject, OfNumber}
@@ -81,12 +81,14 @@ pub record HoldsRest (before after : List Snapshot) (old new : Descs) : Type 0 w
 pub record GivesBack (hold : Option Snapshot) (x x' : Transactions) : Type 0 where
   pub others : HoldsOthers x x'
   pub order : IsPermutation x.held (held_by hold ++ x'.held)
+  pub whole : HoldsWholeViews x → HoldsWholeViews x'
   pub views : length (kept_views x') ≤ length (kept_views x)
 
 -- Some descriptors ended, and each gave back what it held: of the transactions nothing else changes, and no view more is kept.
 pub record Ends (x x' : Transactions) (old new : Descs) : Type 0 where
   pub others : HoldsOthers x x'
   pub holds : HoldsRest x.held x'.held old new
+  pub whole : HoldsWholeViews x → HoldsWholeViews x'
   pub views : length (kept_views x') ≤ length (kept_views x)
   pub remain : (s : ℕ) → AreOpen x s old → AreOpen x' s new
 

@@ -2,6 +2,7 @@ pub mod Arguments
 pub mod Descriptors
 pub mod DescriptorRows
 pub mod Numbers
+pub mod Opened
 pub mod ObjectRows
 pub mod Reading
 pub mod Row

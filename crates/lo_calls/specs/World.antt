@@ -12,7 +12,7 @@ use Rattle.xact_core.specs.Kept.{kept_views, HoldsOthers, HoldsWholeViews}
 use Rattle.xact_core.specs.Transactions.{Transactions, levels_of}
 use Rattle.lo_calls.specs.declared.session.LoSession.{LoSession}
 use Rattle.lo_calls.specs.declared.store.LoStore.{LoStore}
-use Rattle.lo_calls.specs.Descriptors.{descriptors_of, AreOpen, HoldsRest}
+use Rattle.lo_calls.specs.Descriptors.{descriptors_of, holds_of, AreOpen, HoldsRest}
 use Rattle.lo_calls.specs.Row.{Here, Granted, Row}
 
 -- the transactions, what all sessions share, and the session
@@ -66,12 +66,18 @@ pub record Refuses (row : Here → Row) (old new : World) (r : Refusal) : Type 0
   pub first : (ys : List (Edit Deed)) → StandFor old.xacts old.store.pages ys → first_of (row (here_of old ys)).refusals ≡ Some r
   pub same : new ≡ old
 
+-- A session has the same number, descriptors and holds, whatever room for more descriptors was taken.
+pub record IsSameSession (old new : LoSession) : Type 0 where
+  pub number : new.s ≡ old.s
+  pub descriptors : descriptors_of new.descs ≡ descriptors_of old.descs
+  pub holds : holds_of new.descs ≡ holds_of old.descs
+
 -- A call found no memory. Beside the pages nothing changed, and these got versions of the session's top level and the present
 -- clock at most.
 pub record FindsNoMemory (old new : World) : Type 0 where
   pub pages : LeavesOwn old.xacts old.session.s old.store.pages new.store.pages
   pub counter : new.store.counter ≡ old.store.counter
-  pub session : new.session ≡ old.session
+  pub session : IsSameSession old.session new.session
   pub xacts : new.xacts ≡ old.xacts
 
 abbrev pub Denies : (Here → Row) → (old new : World) → Denied → Type 0

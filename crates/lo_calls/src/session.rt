@@ -1,27 +1,32 @@
 // A session's calls on its descriptors. Each is the row of its name in DescriptorRows.
-ghost use Rattle.std.specs.Prelude.{◌≡◌, ◌<◌, ◌-◌, ◌^◌, ℕ, ℤ, pos, length, IfOk, IfErr, OnOk};
+ghost use Rattle.std.specs.Prelude.{◌≡◌, ◌<◌, ◌-◌, ◌^◌, ℕ, ℤ, pos, length, IfOk, IfErr, OnOk, OnErr, Contains, ◌||◌, Some, None};
 ghost use Rattle.lo_base.specs.declared.reply.Reply.TheVariants.{Number, Content};
 ghost use Rattle.lo_base.specs.declared.refusal.Denied.TheVariants.{By};
 ghost use Rattle.xact_core.specs.Kept.{kept_views};
 ghost use Rattle.xact_core.specs.Transactions.{Transactions};
 ghost use Rattle.lo_calls.specs.declared.store.LoStore.{LoStore};
 ghost use Rattle.lo_calls.specs.Descriptors.{AreHeld};
-ghost use Rattle.lo_calls.specs.DescriptorRows.{open_row, close_row, read_row, write_row, seek_row, tell_row, truncate_row};
+ghost use Rattle.lo_calls.specs.Opened.{HoldsFor};
+ghost use Rattle.lo_calls.specs.DescriptorRows.{open_row, close_row, read_row, write_row, seek_row, tell_row, truncate_row, position_range, may_read, may_write};
 ghost use Rattle.lo_calls.specs.World.{world, IsReady, Grants, Refuses, Denies, Keeps};
 
 use crate::descs::{Closing, Descriptor, Descs, MOST_DESCRIPTORS};
+use crate::object_calls::no_object;
 use crate::reading::read_bytes;
 use crate::store::LoStore;
-use lo_base::{Bytes, Cause, Denied, Oid, Refusal, SessionNo};
+use lo_base::{Bytes, Cause, Denied, NoMemory, Oid, Refusal, SessionNo};
 use lo_pages::LARGEST_SIZE;
 use row_versions::Core;
-use xact_core::Snapshot;
+use xact_core::{Hold, Snapshot};
 
 /// The bit of a mode that asks for reading. The manual's name is INV_READ.
 const INV_READ: i32 = 0x40000;
 
 /// The bit of a mode that asks for writing, with which a descriptor may also be read. The manual's name is INV_WRITE.
 const INV_WRITE: i32 = 0x20000;
+
+/// The greatest position that the calls without 64 answer.
+const GREATEST_INT4: u64 = 2147483647;
 
 /// The number of a session, and its open descriptors.
 #[derive(Drop)]
@@ -53,9 +58,9 @@ impl LoSession {
     {
         let snap = core.xacts.snapshot(self.s);
         if !store.pages.exists(core, &snap, oid) {
-            return Err(refused(Cause::NoObject, i64::from(oid)));
+            return Err(no_object(oid));
         }
-        if mode & (INV_READ | INV_WRITE) == 0 {
+        if !is_mode(mode) {
             return Err(refused(Cause::BadMode, i64::from(mode)));
         }
         if self.descs.entries.len() >= MOST_DESCRIPTORS {
@@ -63,11 +68,7 @@ impl LoSession {
         }
         let number = self.descs.free_number();
         self.descs.make_room()?;
-        let hold = if mode & INV_WRITE == 0 {
-            Some(core.xacts.hold(snap)?)
-        } else {
-            None
-        };
+        let hold = hold_view(core, snap, mode)?;
         self.descs.entries.push_reserved(Descriptor {
             number,
             oid,
@@ -198,10 +199,10 @@ impl LoSession {
         if target < 0 || target > i128::from(LARGEST_SIZE) {
             return Err(refusal(Cause::BadSeek, offset));
         }
-        let position = target as i64;
+        let position = target as u64;
         check_range(fd, position, wide)?;
-        self.descs.move_to(number, position as u64);
-        Ok(position)
+        self.descs.move_to(number, position);
+        Ok(target as i64)
     }
 
     /// The descriptor's position. It is refused with `NoDescriptor`, and unless `wide` with `PositionRange` where it is above
@@ -215,9 +216,10 @@ impl LoSession {
             (world x store self.now)) }
     {
         let index = self.descs.find(fd)?;
-        let position = self.descs.entries[index].position as i64;
+        let position = self.descs.entries[index].position;
         check_range(fd, position, wide)?;
-        Ok(position)
+        // Positions are below the greatest int8.
+        Ok(i64::try_from(position).unwrap_or(i64::MAX))
     }
 
     /// Gives the object of a descriptor a size. It is refused with `NoDescriptor`, with `NotWritable` where the descriptor was
@@ -255,7 +257,7 @@ impl LoSession {
         if store.pages.exists(core, &snap, oid) {
             refused(Cause::BadTruncate, len)
         } else {
-            refused(Cause::NoObject, i64::from(oid))
+            no_object(oid)
         }
     }
 
@@ -277,9 +279,45 @@ impl LoSession {
     }
 }
 
+/// Holds the view that a descriptor of a mode reads in, where it may not write.
+fn hold_view(core: &mut Core, snap: Snapshot, mode: i32) -> Result<Option<Hold>, NoMemory>
+    requires kept { Contains (kept_views core.old.xacts) snap }
+    requires views { length (kept_views core.old.xacts) < 2 ^ 64 - 4 }
+    ensures ok { IfOk result (HoldsFor mode snap core.old.xacts core.new.xacts) }
+    ensures err { OnErr result (core.new ≡ core.old) }
+{
+    if may_write(mode) {
+        return Ok(None);
+    }
+    let hold = core.xacts.hold(snap)?;
+    Ok(Some(hold))
+}
+
+/// Whether a mode has one of the bits that count.
+fn is_mode(mode: i32) -> bool
+    ensures { result ≡ (may_read mode || may_write mode) }
+{
+    may_read(mode) || may_write(mode)
+}
+
+fn may_read(mode: i32) -> bool
+    ensures { result ≡ may_read mode }
+{
+    mode & INV_READ != 0
+}
+
+fn may_write(mode: i32) -> bool
+    ensures { result ≡ may_write mode }
+{
+    mode & INV_WRITE != 0
+}
+
 /// Refuses a position that has more than 31 bits, unless it may be wide.
-fn check_range(fd: i32, position: i64, wide: bool) -> Result<(), Refusal> {
-    if !wide && position > i64::from(i32::MAX) {
+fn check_range(fd: i32, position: u64, wide: bool) -> Result<(), Refusal>
+    ensures ok { OnOk result (position_range wide position fd ≡ None) }
+    ensures err { IfErr result (λ r. position_range wide position fd ≡ Some r) }
+{
+    if !wide && position > GREATEST_INT4 {
         return Err(refusal(Cause::PositionRange, i64::from(fd)));
     }
     Ok(())
