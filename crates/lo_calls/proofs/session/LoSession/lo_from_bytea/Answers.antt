@@ -6,11 +6,12 @@ use Rattle.lo_pages.specs.Steps.{HasAlone}
 use Rattle.lo_calls.specs.World.{world}
 use Rattle.lo_calls.proofs.Creating.{create_denied, write_denied, create_done, picked_counter, named_counter}
 use Rattle.lo_calls.proofs.Refusing.{denied_by}
-use Rattle.lo_calls.proofs.Worlds.{store_keeps, nothing_keeps}
+use Rattle.lo_calls.proofs.Keeping.{keeps_same}
+use Rattle.lo_calls.proofs.Worlds.{store_keeps}
 use Rattle.lo_calls.proofs.session.LoSession.lo_from_bytea.Goals as goal
 
 pub returns-in_err-number-clause-keeps : goal.returns-in_err-number-clause-keeps
-returns-in_err-number-clause-keeps c = nothing_keeps (world c.args.core.now.xacts c.args.store.now c.args.self.now) c.requires.ready
+returns-in_err-number-clause-keeps c = keeps_same (world c.args.core.now.xacts c.args.store.now c.args.self.now) c.requires.ready
 
 pub returns-in_err-create-clause-err : goal.returns-in_err-create-clause-err
 returns-in_err-create-clause-err c =
