@@ -4,6 +4,7 @@ use Rattle.std.proofs.lemmas.Option.{slice_get_within, get_or_from_slice_get}
 use Rattle.lo_base.specs.declared.refusal.Refusal.{Refusal}
 use Rattle.lo_model.specs.Edit.{Deed, Edit}
 use Rattle.lo_pages.specs.Outcome.{first_of}
+use Rattle.lo_calls.specs.Access.{FindsWritable}
 use Rattle.lo_calls.specs.declared.descs.Descriptor.{Descriptor}
 use Rattle.lo_calls.specs.declared.descs.Descs.{Descs}
 use Rattle.lo_calls.specs.Descriptors.{described_by, FindsDescriptor, FindsNone}
@@ -28,3 +29,6 @@ none_refuses row rest fd w r none is = record { first = λ ys stands. ap first_o
 -- its number
 pub found_number : (fd : ℤ) (descs : Descs) (index : ℕ) (d : Descriptor) → FindsDescriptor fd descs index → d ≡ get_or descs.entries.items index d → fd ≡ pos d.number
 found_number fd descs index d finds is = finds.number ∙ ap (λ (e : Descriptor). pos e.number) (sym (found_there fd descs index finds d is))
+
+pub finds_writable : (fd : ℤ) (descs : Descs) (index : ℕ) (d : Descriptor) → FindsDescriptor fd descs index → d ≡ get_or descs.entries.items index d → d.hold ≡ None → FindsWritable fd descs index
+finds_writable fd descs index d finds is writes = record { finds = finds; writes = ap (λ (e : Descriptor). e.hold) (sym (found_there fd descs index finds d is)) ∙ writes }

@@ -7,6 +7,7 @@ pub mod Entries
 pub mod Finding
 pub mod Getting
 pub mod Keeping
+pub mod Looking
 pub mod Mapping
 pub mod Modes
 pub mod Opening
@@ -14,6 +15,7 @@ pub mod Putting
 pub mod Refusing
 pub mod Rows
 pub mod Seeing
-pub mod Unlinking
+pub mod Sizing
 pub mod Telling
+pub mod Unlinking
 pub mod Worlds

@@ -23,7 +23,7 @@ use Rattle.lo_calls.specs.declared.descs.Descriptor.{Descriptor}
 use Rattle.lo_calls.specs.declared.descs.Descs.{Descs}
 use Rattle.lo_calls.specs.DescriptorRows.{may_read, may_write, opened_by, open_row}
 use Rattle.lo_calls.specs.Descriptors.{reading_of, described_by, descriptors_of, held_by, holds_in, holds_of, last_position, AreOpen, IsOwnHold}
-use Rattle.lo_calls.specs.Opened.{HoldsFor}
+use Rattle.lo_calls.specs.Access.{HoldsFor}
 use Rattle.lo_calls.specs.World.{World, world, here_of, IsReady, IsGranted, Grants, Refuses, FindsNoMemory, Keeps}
 use Rattle.lo_calls.proofs.Closing.{holds_same, holds_append}
 use Rattle.lo_calls.proofs.Keeping.{with_descs, moved_keeps}

@@ -1,8 +1,8 @@
+pub mod Access
 pub mod Arguments
 pub mod Descriptors
 pub mod DescriptorRows
 pub mod Numbers
-pub mod Opened
 pub mod ObjectRows
 pub mod Reading
 pub mod Row

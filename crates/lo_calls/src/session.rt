@@ -1,13 +1,16 @@
 // A session's calls on its descriptors. Each is the row of its name in DescriptorRows.
-ghost use Rattle.std.specs.Prelude.{◌≡◌, ◌<◌, ◌-◌, ◌^◌, ℕ, ℤ, pos, length, IfOk, IfErr, OnOk, OnErr, Contains, ◌||◌, Some, None};
+ghost use Rattle.std.specs.Prelude.{◌≡◌, ◌<◌, ◌-◌, ◌^◌, ℕ, ℤ, pos, length, ◌+ℤ◌, IfOk, IfErr, IfSome, OnOk, OnErr, true, Contains, ◌||◌, Some, None};
 ghost use Rattle.lo_base.specs.declared.reply.Reply.TheVariants.{Number, Content};
+ghost use Rattle.lo_base.specs.declared.refusal.Cause.TheVariants.{BadSeek};
 ghost use Rattle.lo_base.specs.declared.refusal.Denied.TheVariants.{By};
 ghost use Rattle.xact_core.specs.Kept.{kept_views};
-ghost use Rattle.xact_core.specs.Transactions.{Transactions};
+ghost use Rattle.xact_core.specs.Transactions.{Transactions, levels_of};
+ghost use Rattle.lo_pages.specs.Outcome.{largest_size};
 ghost use Rattle.lo_calls.specs.declared.store.LoStore.{LoStore};
-ghost use Rattle.lo_calls.specs.Descriptors.{AreHeld};
-ghost use Rattle.lo_calls.specs.Opened.{HoldsFor};
-ghost use Rattle.lo_calls.specs.DescriptorRows.{open_row, close_row, read_row, write_row, seek_row, tell_row, truncate_row, position_range, may_read, may_write};
+ghost use Rattle.lo_calls.specs.Access.{HoldsFor, ReadsIn, FindsWritable, FindsNoneWritable, CountsFrom, IsTarget, DeniesSize};
+ghost use Rattle.lo_calls.specs.Descriptors.{AreHeld, IsOwnHold};
+ghost use Rattle.lo_calls.specs.DescriptorRows.{open_row, close_row, read_row, write_row, seek_row, tell_row, truncate_row, position_range, bad_whence, may_read, may_write};
+ghost use Rattle.lo_calls.specs.Terms.{when, is_outside};
 ghost use Rattle.lo_calls.specs.World.{world, IsReady, Grants, Refuses, Denies, Keeps};
 
 use crate::descs::{Closing, Descriptor, Descs, MOST_DESCRIPTORS};
@@ -186,23 +189,11 @@ impl LoSession {
         let index = self.descs.find(fd)?;
         let descriptor = &self.descs.entries[index];
         let number = descriptor.number;
-        let base = match whence {
-            0 => 0,
-            1 => descriptor.position,
-            2 => {
-                let snap = self.view(core, descriptor);
-                store.pages.size(core, &snap, descriptor.oid)
-            }
-            _ => return Err(refusal(Cause::BadWhence, i64::from(whence))),
-        };
-        let target = i128::from(base) + i128::from(offset);
-        if target < 0 || target > i128::from(LARGEST_SIZE) {
-            return Err(refusal(Cause::BadSeek, offset));
-        }
-        let position = target as u64;
+        let base = self.seek_base(store, core, descriptor, whence)?;
+        let position = target(base, offset)?;
         check_range(fd, position, wide)?;
         self.descs.move_to(number, position);
-        Ok(target as i64)
+        Ok(position as i64)
     }
 
     /// The descriptor's position. It is refused with `NoDescriptor`, and unless `wide` with `PositionRange` where it is above
@@ -251,8 +242,37 @@ impl LoSession {
         Ok(())
     }
 
+    /// What an offset is counted from. It is refused with `BadWhence` where it is none of the three.
+    fn seek_base(
+        &self,
+        store: &LoStore,
+        core: &Core,
+        descriptor: &Descriptor,
+        whence: i32,
+    ) -> Result<u64, Refusal>
+        requires ready { IsReady (world core.now.xacts store.now self.now) }
+        requires open { Contains self.now.descs.entries.items descriptor.now }
+        ensures ok { IfOk result (CountsFrom (world core.now.xacts store.now self.now)
+            descriptor.now whence) }
+        ensures err { IfErr result (λ r. bad_whence whence ≡ Some r) }
+    {
+        match whence {
+            0 => Ok(0),
+            1 => Ok(descriptor.position),
+            2 => {
+                let snap = self.view(core, descriptor);
+                Ok(store.pages.size(core, &snap, descriptor.oid))
+            }
+            _ => Err(refusal(Cause::BadWhence, i64::from(whence))),
+        }
+    }
+
     /// Why a negative size is refused.
-    fn bad_size(&self, store: &LoStore, core: &Core, oid: Oid, len: i64) -> Denied {
+    fn bad_size(&self, store: &LoStore, core: &Core, oid: Oid, len: i64) -> Denied
+        requires ready { IsReady (world core.now.xacts store.now self.now) }
+        requires negative { is_outside largest_size len ≡ true }
+        ensures { DeniesSize (world core.now.xacts store.now self.now) oid len result }
+    {
         let snap = core.xacts.snapshot(self.s);
         if store.pages.exists(core, &snap, oid) {
             refused(Cause::BadTruncate, len)
@@ -262,20 +282,40 @@ impl LoSession {
     }
 
     /// At which index the descriptor of a number stands, which may write.
-    fn writable(&self, fd: i32) -> Result<usize, Refusal> {
+    fn writable(&self, fd: i32) -> Result<usize, Refusal>
+        ensures ok { IfOk result (FindsWritable fd self.now.descs) }
+        ensures err { IfErr result (FindsNoneWritable fd self.now.descs) }
+    {
         let index = self.descs.find(fd)?;
-        if self.descs.entries[index].hold.is_some() {
-            return Err(refusal(Cause::NotWritable, i64::from(fd)));
+        match self.descs.entries[index].hold {
+            Some(_) => Err(refusal(Cause::NotWritable, i64::from(fd))),
+            None => Ok(index),
         }
-        Ok(index)
     }
 
     /// The view that a descriptor reads in: the one that it holds, or else the current one.
-    fn view(&self, core: &Core, descriptor: &Descriptor) -> Snapshot {
+    fn view(&self, core: &Core, descriptor: &Descriptor) -> Snapshot
+        requires transaction { 0 < length (levels_of core.now.xacts self.now.s) }
+        requires own { IsOwnHold self.now.s descriptor.now.hold }
+        requires held { IfSome descriptor.now.hold (Contains core.now.xacts.held) }
+        ensures { ReadsIn core.now.xacts self.now.s descriptor.now result }
+    {
         match &descriptor.hold {
             Some(hold) => hold.snapshot(),
             None => core.xacts.snapshot(self.s),
         }
+    }
+}
+
+/// Where an offset from a base leads. It is refused with `BadSeek` below 0 and above the largest size.
+fn target(base: u64, offset: i64) -> Result<u64, Refusal>
+    ensures ok { IfOk result (IsTarget base offset) }
+    ensures err { IfErr result (λ r. when (is_outside largest_size (pos base +ℤ offset)) BadSeek
+        offset ≡ Some r) }
+{
+    match base.checked_add_signed(offset) {
+        Some(position) if position <= LARGEST_SIZE => Ok(position),
+        _ => Err(refusal(Cause::BadSeek, offset)),
     }
 }
 

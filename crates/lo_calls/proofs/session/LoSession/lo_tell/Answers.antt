@@ -11,7 +11,7 @@ use Rattle.lo_calls.proofs.Telling.{told, tell_done}
 use Rattle.lo_calls.proofs.session.LoSession.lo_tell.Goals as goal
 
 pub returns-clause-ok : goal.returns-clause-ok
-returns-clause-ok c x store ready = 
+returns-clause-ok c x store ready =
     let w = world x store c.args.self.now in
     let fd = to_z-of_z w32 c.args.fd c.ranges.fd in
     let within = found_within _ c.args.self.now.descs c.in_ok-index.index c.in_ok-index.ensures.ok in
