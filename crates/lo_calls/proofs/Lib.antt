@@ -1,6 +1,7 @@
 pub mod Busy
 pub mod Cancelling
 pub mod Closing
+pub mod Creating
 pub mod Ending
 pub mod Entries
 pub mod Finding
@@ -17,4 +18,5 @@ pub mod Seeing
 pub mod Seeking
 pub mod Sizing
 pub mod Telling
+pub mod Unlinking
 pub mod Worlds

@@ -6,9 +6,7 @@ use Rattle.lo_base.specs.declared.refusal.Refusal.{Refusal}
 use Rattle.lo_base.specs.declared.reply.Reply.{Reply}
 use Rattle.lo_model.specs.declared.owner.Owner.TheVariants.{Running}
 use Rattle.lo_model.specs.Edit.{Deed, Edit, edits_by}
-use Rattle.xact_core.specs.Kept.{HoldsOthers}
 use Rattle.xact_core.specs.Transactions.{Transactions, levels_of}
-use Rattle.xact_core.proofs.KeptViews.{held_kept}
 use Rattle.lo_pages.specs.declared.pages.Pages.{Pages}
 use Rattle.lo_pages.specs.Outcome.{first_of, Adds, LeavesOwn}
 use Rattle.lo_pages.specs.Outcome as pages
@@ -18,15 +16,13 @@ use Rattle.lo_calls.specs.declared.store.LoStore.{LoStore}
 use Rattle.lo_calls.specs.Descriptors.{descriptors_of, holds_of}
 use Rattle.lo_calls.specs.Row.{Here, Granted, Row}
 use Rattle.lo_calls.specs.World.{World, world, here_of, counter_end, IsReady, IsGranted, Grants, Refuses, IsSameSession, FindsNoMemory, Denies, Keeps}
+use Rattle.lo_calls.proofs.Closing.{holds_same}
 
 same_session : (old new : LoSession) → new ≡ old → IsSameSession old new
 same_session old new is = record { number = ap (λ (s : LoSession). s.s) is; descriptors = ap (λ (s : LoSession). descriptors_of s.descs) is; holds = ap (λ (s : LoSession). holds_of s.descs) is }
 
 pub no_memory : (old new : World) → LeavesOwn old.xacts old.session.s old.store.pages new.store.pages → new.store.counter ≡ old.store.counter → new.session ≡ old.session → new.xacts ≡ old.xacts → FindsNoMemory old new
 no_memory old new left counter session xacts = record { pages = left; counter = counter; session = same_session old.session new.session session; xacts = xacts }
-
-pub others_same : (x : Transactions) → HoldsOthers x x
-others_same x = record { rest = refl; kept = λ v held. held_kept x v held }
 
 -- the edits that a session makes of some deeds at its top level
 abbrev pub made_of : World → List Deed → List (Edit Deed)
@@ -54,7 +50,7 @@ module _ (old new : World) (xacts : new.xacts ≡ old.xacts) (session : new.sess
       by_store = record {
         ready = record { transaction = ready.transaction; whole = ready.whole; goes = goes; descriptors = ready.descriptors; counter = counter };
         session = refl;
-        others = others_same old.xacts;
+        others = holds_same old.xacts;
         holds = record { rest = λ others is. is };
         views = omega arith;
       }
@@ -77,6 +73,3 @@ module _ (old new : World) (xacts : new.xacts ≡ old.xacts) (session : new.sess
           descriptors = ap (λ (s : LoSession). descriptors_of s.descs) session ∙ (is ys stands).descriptors;
           counter = (is ys stands).counter;
         }
-
-pub nothing_keeps : (w : World) → IsReady w → Keeps w w
-nothing_keeps w ready = store_keeps w w refl refl ready ready.goes ready.counter

@@ -1,4 +1,5 @@
 pub mod Adding
+pub mod Alone
 pub mod Beginning
 pub mod Blocks
 pub mod Bytes
@@ -9,6 +10,7 @@ mod Examples
 pub mod Filling
 pub mod Finding
 pub mod Folds
+pub mod HeldPages
 pub mod Holding
 pub mod Keys
 pub mod Looping

@@ -1,3 +1,4 @@
+-- What each changing call does to the three stores, and the searches in them for other sessions.
 use Rattle.std.specs.Prelude.{◌≡◌, ◌≢◌, ◌≤◌, ◌<◌, ◌+◌, ◌-◌, ◌*◌, ◌/◌, ℕ, zero, suc, Bool, true, false, ◌==◌, ◌||◌, List, [], ◌∷◌, ◌++◌, length, filter, Option, Some, None, ◌⊎◌}
 use Rattle.lo_model.specs.declared.viewer.Viewer.{Viewer}
 use Rattle.lo_model.specs.declared.viewer.Viewer.TheVariants.{Whole}

@@ -1,3 +1,4 @@
+-- What an edit makes of one page, of the head of an object and of a mark of a cut.
 use Rattle.std.specs.Prelude.{ℕ, ◌+◌, ◌-◌, ◌*◌, ◌/◌, Bool, true, false, ◌==◌, ◌&&◌, nat_lt, List, [], length, take, drop, filter, Option, Some, None, if◌then◌else◌}
 use Rattle.lo_model.specs.Edit.{Deed, Create, Write, Cut, Unlink, Put, Delete, Edit}
 use Rattle.lo_model.specs.Object.{at_size, laid_over}

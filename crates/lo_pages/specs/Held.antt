@@ -1,3 +1,4 @@
+-- The page versions that kept views have, in words of edits, and what a vacuum leaves of them.
 use Rattle.std.specs.Prelude.{◌≡◌, ◌≢◌, ℕ, ◌/◌, Bool, true, false, ◌==◌, List, Option, Some, None, is_some, option_map, Contains, take}
 use Rattle.lo_model.specs.Edit.{Deed, Create, Write, Cut, Unlink, Put, Delete, Edit}
 use Rattle.lo_model.specs.Object.{object_in}
@@ -12,8 +13,6 @@ use Rattle.row_versions.specs.Stands.{standing}
 use Rattle.row_versions.specs.Vacuum.{last_in, OneOwner}
 use Rattle.lo_pages.specs.Stores.{Stores}
 use Rattle.lo_pages.specs.Content.{Content, touches_page}
-
--- The page versions of the first kind, in words of the model.
 
 -- the last edit that touches a page
 abbrev pub last_touching : (oid number : ℕ) → List (Edit Deed) → Option (Edit Deed)

@@ -1,8 +1,7 @@
+-- Bytes by page that stand for the bytes of an object.
 use Rattle.std.specs.Prelude.{◌≡◌, ℕ, zero, suc, ◌+◌, ◌-◌, ◌*◌, ◌/◌, ◌<◌, ◌≤◌, Bool, true, false, List, [], ◌∷◌, length, Option, Some, None, slice_index_or}
 use Rattle.lo_model.specs.Descriptor.{bytes_or_none}
 use Rattle.lo_model.specs.Edit.{Deed, Create, Write, Cut, Unlink, Put, Delete}
-
--- Bytes by page stand for the bytes of an object.
 
 abbrev pub byte_at : List ℕ → ℕ → ℕ
 byte_at bytes i = slice_index_or bytes i 0

@@ -1,4 +1,5 @@
-use Rattle.std.specs.Prelude.{ℕ, Bool, List, [], Contains}
+-- Stores without versions, what a vacuum takes from each key, and what a call adds to it.
+use Rattle.std.specs.Prelude.{◌≡◌, ℕ, Bool, List, [], Contains}
 use Rattle.lo_model.specs.Edit.{Deed, Edit}
 use Rattle.xact_core.specs.Transactions.{Transactions}
 use Rattle.row_versions.specs.Stands.{AddsOwn, vacuumed}
@@ -18,7 +19,13 @@ stores_vacuumed erases x stores = record {
   cuts = λ o b. vacuumed is_erasure x (stores.cuts o b);
 }
 
--- What a call that found no memory has put: new versions of the maker's top level alone.
+-- A vacuum has taken from each key of the three stores what no kept view needs.
+pub record Vacuums {P : Type 0} (erases : P → Bool) (x : Transactions) (old new : Stores P) : Type 0 where
+  pub objects : (o : ℕ) → new.objects o ≡ (stores_vacuumed erases x old).objects o
+  pub pages : (o b : ℕ) → new.pages o b ≡ (stores_vacuumed erases x old).pages o b
+  pub cuts : (o b : ℕ) → new.cuts o b ≡ (stores_vacuumed erases x old).cuts o b
+
+-- What a call has put, also where it found no memory: new versions of the maker's top level alone.
 pub record AddsOwnAll {P : Type 0} (x : Transactions) (s : ℕ) (old new : Stores P) : Type 0 where
   pub objects : (o : ℕ) → AddsOwn x s (old.objects o) (new.objects o)
   pub pages : (o b : ℕ) → AddsOwn x s (old.pages o b) (new.pages o b)

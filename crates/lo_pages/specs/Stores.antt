@@ -1,3 +1,4 @@
+-- The three stores of versions: what they stand for, and what a view finds in them.
 use Rattle.std.specs.Prelude.{◌≡◌, ℕ, zero, suc, Bool, true, false, ◌||◌, List, Option, Some, None, option_map}
 use Rattle.lo_model.specs.declared.viewer.Viewer.{Viewer}
 use Rattle.lo_model.specs.Edit.{Deed, Edit}

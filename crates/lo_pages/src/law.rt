@@ -1,10 +1,11 @@
 // Laws of pages that layers above live on, over all calls of the transactions. No code calls these functions.
-ghost use Rattle.std.specs.Prelude.{◌≡◌, ◌≤◌, ℕ, ℤ, false, List, [], ◌∷◌, ◌++◌, length, Option, None};
+ghost use Rattle.std.specs.Prelude.{◌≡◌, ◌≤◌, ℕ, ℤ, false, List, [], ◌∷◌, ◌++◌, length, Option, None, Contains};
 ghost use Rattle.lo_base.specs.declared.value.Value.{Value};
 ghost use Rattle.lo_model.specs.declared.owner.Owner.TheVariants.{Running};
 ghost use Rattle.lo_model.specs.declared.viewer.Viewer.{Viewer};
 ghost use Rattle.lo_model.specs.Descriptor.{bytes_or_none};
 ghost use Rattle.lo_model.specs.Edit.{Deed, Put, Delete, Edit};
+ghost use Rattle.lo_model.specs.Held.{PageVersion, versions_in};
 ghost use Rattle.lo_model.specs.Levels.{released, undone, aborted, committed};
 ghost use Rattle.lo_model.specs.Numbering.{is_on};
 ghost use Rattle.lo_model.specs.Object.{object_in};
@@ -22,7 +23,7 @@ ghost use Rattle.row_versions.specs.Vacuum.{OneOwner};
 ghost use Rattle.lo_pages.specs.declared.pages.Pages.{Pages};
 ghost use Rattle.lo_pages.specs.Calls.{IsMaker};
 ghost use Rattle.lo_pages.specs.Content.{at_page};
-ghost use Rattle.lo_pages.specs.Held.{HasFirst};
+ghost use Rattle.lo_pages.specs.Held.{HasFirst, HasPageVersion};
 ghost use Rattle.lo_pages.specs.Outcome.{LeavesOwn, StandsAlike};
 ghost use Rattle.lo_pages.specs.Standing.{GoWith, StandFor, ReadsAs};
 
@@ -117,4 +118,12 @@ pub fn versions_left()
     ensures both { (x : Transactions) (s : ℕ) (a b c : Pages) → LeavesOwn x s a b →
         LeavesOwn x s b c → LeavesOwn x s a c }
     ensures same { (x : Transactions) (s : ℕ) (a : Pages) → LeavesOwn x s a a }
+{}
+
+/// The page versions that a view's edits have are those that the model counts among the versions which the view reads.
+pub fn held_pages()
+    ensures counted { (o b c : ℕ) (edits : List (Edit Deed)) → HasPageVersion o b c edits →
+        Contains (versions_in edits) (PageVersion o b c) }
+    ensures only { (o b c : ℕ) (edits : List (Edit Deed)) →
+        Contains (versions_in edits) (PageVersion o b c) → HasPageVersion o b c edits }
 {}

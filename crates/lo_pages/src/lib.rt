@@ -10,7 +10,7 @@ mod page_key;
 mod pages;
 mod span;
 
-pub use law::{edits_closed, pages_go, pages_read, pages_stand, versions_left};
+pub use law::{edits_closed, held_pages, pages_go, pages_read, pages_stand, versions_left};
 pub use pages::{LARGEST_SIZE, PAGE_BYTES, Pages};
 
 #[cfg(test)]

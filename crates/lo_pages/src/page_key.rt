@@ -1,3 +1,4 @@
+// The key by which the stores of pages and of cuts are ordered.
 ghost use Rattle.lo_pages.specs.Keys.{exact_keys};
 
 use lo_base::Oid;

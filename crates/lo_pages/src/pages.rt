@@ -14,6 +14,8 @@ ghost use Rattle.row_versions.specs.Looks.{IsLook};
 ghost use Rattle.lo_pages.specs.Held.{LeavesHeld};
 ghost use Rattle.lo_pages.specs.Object.{bytes_from};
 ghost use Rattle.lo_pages.specs.Outcome.{piece_at, is_byte, has_bytes, NoneFrom, LeastFrom};
+ghost use Rattle.row_versions.specs.Found.{is_erasure};
+ghost use Rattle.lo_pages.specs.Rest.{Vacuums};
 ghost use Rattle.lo_pages.specs.Standing.{GoWith, StandFor, ReadsAs, has_page, last_number, page_value, stores_of};
 ghost use Rattle.lo_pages.specs.Stores.{open_at, head_at, bytes_at};
 
@@ -235,6 +237,8 @@ impl Pages {
         ensures open { (viewer : Viewer) (o b : ℕ) →
             open_at viewer core.old.xacts (stores_of self.new) o b ≡ open_at viewer core.old.xacts
             (stores_of self.old) o b }
+        // Of objects, pages and cuts alike, what no kept view needs is gone.
+        ensures all { Vacuums is_erasure core.old.xacts (stores_of self.old) (stores_of self.new) }
         // What is left of pages are the versions that kept views have, each once.
         ensures left { (ys : List (Edit Deed)) → StandFor core.old.xacts self.old ys →
             LeavesHeld core.old.xacts ys (stores_of self.new) }

@@ -21,7 +21,7 @@ use Rattle.std.specs.declared.cmp.Ordering.{Ordering}
 use Rattle.std.proofs.lemmas.Map.Lookups.{CmpEqualImpliesEq}
 use Rattle.row_versions.specs.Calls.{Ticks}
 use Rattle.xact_core.specs.Kept.{HoldsOthers}
-use Rattle.row_versions.specs.Store.{versions_at, ListsUnsettled, AddsVersion, SameVersions, KeepsListed, GoesWith}
+use Rattle.row_versions.specs.Store.{versions_at, HasNoEmpty, ListsUnsettled, AddsVersion, SameVersions, KeepsListed, GoesWith}
 use Rattle.row_versions.specs.Stands.{Version, standing, Fits, IsSettled, lowest_other, vacuumed}
 use Rattle.row_versions.specs.declared.store.Store.{Store}
 use Rattle.row_versions.proofs.Agreeing.{standing_turned, fits_turned}
@@ -64,6 +64,7 @@ module _ {K D : Type 0} (cmp : K → K → Ordering) (total : IsTotalOrder cmp) 
     fits = λ key. fits_turned turn old new (versions_at cmp store key) turns (goes.fits key);
     stacks = λ key. (let are : standing new (versions_at cmp store key) ≡ turned turn (standing old (versions_at cmp store key)) = standing_turned turn old new (versions_at cmp store key) turns (goes.fits key) in rw are (stack_turned turn old new keeps (standing old (versions_at cmp store key)) (goes.stacks key)));
     listed = record { settled = λ key. by_case key (goes.listed.settled key) };
+    full = goes.full;
   }
     where
       by_case : {B : Type 0} (key : K) → IsSettled is_erasure old (versions_at cmp store key) ⊎ B → IsSettled is_erasure new (versions_at cmp store key) ⊎ B
@@ -88,6 +89,7 @@ module _ {K D : Type 0} (cmp : K → K → Ordering) (total : IsTotalOrder cmp) 
     fits = λ k. fits k (same_or_not cmp total exact k key);
     stacks = λ k. stacks k (same_or_not cmp total exact k key);
     listed = lists.keeps goes.listed;
+    full = lists.full goes.full;
   }
     where
       fits : (k : K) → (k ≡ key) ⊎ (k ≡ key → ⊥) → Fits x (versions_at cmp new k)
@@ -108,11 +110,12 @@ module _ {K D : Type 0} (cmp : K → K → Ordering) (total : IsTotalOrder cmp) 
       stacks k (inr apart) = rw (adds.others k apart) (goes.stacks k)
 
   -- through a reclamation
-  pub goes_vacuumed : (x : Transactions) (old new : Store K D) → ((key : K) → versions_at cmp new key ≡ vacuumed is_erasure x (versions_at cmp old key)) → ListsUnsettled cmp x new → GoesWith cmp x old → GoesWith cmp x new
-  goes_vacuumed x old new are listed goes = record {
+  pub goes_vacuumed : (x : Transactions) (old new : Store K D) → ((key : K) → versions_at cmp new key ≡ vacuumed is_erasure x (versions_at cmp old key)) → ListsUnsettled cmp x new → HasNoEmpty cmp new.chains → GoesWith cmp x old → GoesWith cmp x new
+  goes_vacuumed x old new are listed full goes = record {
     fits = λ key. rw (are key) (vacuumed_each (λ (v : Version (Option D)). IsIssued x v.stamp) is_erasure x (versions_at cmp old key) (goes.fits key));
     stacks = λ key. rw (are key, standing_vacuumed is_erasure x (versions_at cmp old key)) (reclaimed_stack is_erasure (kept_views x) x (standing x (versions_at cmp old key)) (goes.stacks key));
     listed = listed;
+    full = full;
   }
 
   -- through the calls that change no owner
@@ -138,6 +141,7 @@ module _ {K D : Type 0} (cmp : K → K → Ordering) (total : IsTotalOrder cmp) 
     fits = λ key. rw (same_ones.same key) (goes.fits key);
     stacks = λ key. rw (same_ones.same key) (goes.stacks key);
     listed = lists.keeps goes.listed;
+    full = lists.full goes.full;
   }
 
   pub goes_put : {A E : Type 0} (result : Result A E) (x : Transactions) (s : ℕ) (key : K) (deed : Option D) (old new : Store K D) → 1 ≤ s → 0 < length (levels_of x s) → lowest_other s (standing x (versions_at cmp old key)) ≡ None → OnOk result (AddsVersion cmp x s key deed old new) → OnErr result (SameVersions cmp old new) → KeepsListed cmp x old new → GoesWith cmp x old → GoesWith cmp x new

@@ -4,7 +4,9 @@ use Rattle.std.specs.Prelude.{not, ◌||◌, filter}
 use Rattle.std.specs.Cmp.{IsTotalOrder}
 use Rattle.std.specs.List.{list_any}
 use Rattle.std.specs.Ordering.{is_eq}
-use Rattle.std.specs.BTreeMap.{is_at}
+use Rattle.std.specs.BTreeMap.{BTreeMap, is_at}
+use Rattle.std.specs.declared.alloc.Global.{Global}
+use Rattle.std.specs.declared.vec.Vec.{Vec}
 use Rattle.std.specs.declared.cmp.Ordering.{Ordering}
 use Rattle.std.proofs.lemmas.Bool.{false≢true}
 use Rattle.std.proofs.lemmas.Cmp.{tied_itself}
@@ -15,9 +17,10 @@ use Rattle.lo_model.specs.declared.owner.Owner.{Owner}
 use Rattle.lo_model.specs.declared.owner.Owner.TheVariants.{Running, Committed}
 use Rattle.xact_core.specs.Stamp.{owner_of}
 use Rattle.xact_core.specs.Transactions.{Transactions}
+use Rattle.row_versions.specs.declared.chain.Entry.{Entry}
 use Rattle.row_versions.specs.Found.{is_erasure, is_settled, is_put_by}
 use Rattle.row_versions.specs.Stack.{IsStack}
-use Rattle.row_versions.specs.Store.{is_among, VacuumsKeys}
+use Rattle.row_versions.specs.Store.{is_among, is_empty_at, HasNoEmpty, VacuumsKeys}
 use Rattle.row_versions.specs.Stands.{Version, standing, IsSettled, IsPutBy, vacuumed}
 use Rattle.row_versions.proofs.Again.{vacuumed_again}
 use Rattle.row_versions.proofs.Laws.{settled_stays}
@@ -83,6 +86,14 @@ module _ {K : Type 0} (cmp : K → K → Ordering) (total : IsTotalOrder cmp) (e
       by_test : (c : Bool) → is_at (cmp a) b ≡ c → c ≡ false
       by_test true is = absurd (apart (tells_apart exact a b is))
       by_test false is = refl
+
+  -- no key is left without versions where one has some and the others are as they were
+  pub full_next : {D : Type 0} (key : K) (old new : BTreeMap K (Vec (Entry D) Global)) → is_empty_at cmp new key ≡ false → ((k : K) → k ≢ key → is_empty_at cmp new k ≡ is_empty_at cmp old k) → HasNoEmpty cmp old → HasNoEmpty cmp new
+  full_next {D} key old new here others was = record { none = λ k. by_key k (same_or_not k key) }
+    where
+      by_key : (k : K) → (k ≡ key) ⊎ (k ≡ key → ⊥) → is_empty_at cmp new k ≡ false
+      by_key k (inl same) = ap (is_empty_at cmp new) same ∙ here
+      by_key k (inr apart) = others k apart ∙ was.none k
 
   -- the keys that stay listed
 

@@ -1,3 +1,4 @@
+-- The body of a vacuum of one key, step by step.
 use Rattle.std.specs.Prelude.{Bool, false, not, ◌&&◌, ◌||◌, List, [], ◌∷◌, map, Option, if◌then◌else◌}
 use Rattle.std.specs.List.{list_any}
 use Rattle.xact_core.specs.declared.snapshot.Snapshot.{Snapshot}
@@ -6,8 +7,6 @@ use Rattle.xact_core.specs.Transactions.{Transactions}
 use Rattle.row_versions.specs.declared.chain.Entry.{Entry}
 use Rattle.row_versions.specs.Found.{is_erasure}
 use Rattle.row_versions.specs.Stands.{Version, is_gone}
-
--- The body of a vacuum of one key, step by step.
 
 abbrev pub version_of : {D : Type 0} → Entry D → Version (Option D)
 version_of e = record { stamp = e.stamp; deed = e.content }

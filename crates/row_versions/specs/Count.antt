@@ -1,10 +1,9 @@
+-- How much a vacuum leaves, key by key and over many keys.
 use Rattle.std.specs.Prelude.{ℕ, suc, ◌+◌, ◌≡◌, ◌≢◌, Bool, not, List, [], ◌∷◌, Contains, if◌then◌else◌}
 use Rattle.lo_model.specs.Edit.{Edit}
 use Rattle.xact_core.specs.declared.snapshot.Snapshot.{Snapshot}
 use Rattle.row_versions.specs.Stack.{Pairwise}
 use Rattle.row_versions.specs.Vacuum.{reclaimed, IsFound}
-
--- How much a vacuum leaves.
 
 -- how many pass a test
 abbrev pub count_of : {X : Type 0} → (X → Bool) → List X → ℕ

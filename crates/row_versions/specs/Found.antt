@@ -1,3 +1,4 @@
+-- What a view finds among the versions of one key, each of which puts a content there or erases it.
 use Rattle.std.specs.Prelude.{ℕ, Bool, true, false, not, ◌&&◌, List, [], ◌∷◌, Option, Some, None}
 use Rattle.lo_model.specs.declared.owner.Owner.{Owner}
 use Rattle.lo_model.specs.Edit.{Edit}
@@ -7,8 +8,6 @@ use Rattle.xact_core.specs.Stamp.{owner_of}
 use Rattle.xact_core.specs.Transactions.{Transactions}
 use Rattle.row_versions.specs.Stands.{Version, standing, after_all, replaces}
 use Rattle.row_versions.specs.Vacuum.{is_committed}
-
--- What a view finds among the versions of one key, each of which puts a content there or erases it.
 
 abbrev pub is_erasure : {D : Type 0} → Option D → Bool
 is_erasure None = true

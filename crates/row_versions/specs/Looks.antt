@@ -1,3 +1,4 @@
+-- The views in which a store answers, and what they have after an end.
 use Rattle.std.specs.Prelude.{◌≡◌, List, Option, Contains}
 use Rattle.lo_model.specs.declared.owner.Owner.{Owner}
 use Rattle.lo_model.specs.Edit.{Edit}

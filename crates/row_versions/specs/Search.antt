@@ -1,3 +1,5 @@
+-- Searches over several keys: the least or the greatest key at which a view finds something, and the lowest other session
+-- that has one of them open.
 use Rattle.std.specs.Prelude.{ℕ, ◌≤◌, ◌≡◌, true, Option, Some, None, is_some}
 use Rattle.std.specs.declared.cmp.Ordering.{Ordering}
 use Rattle.std.specs.BTreeMap.Range.{IsLeBy}
@@ -7,9 +9,6 @@ use Rattle.row_versions.specs.declared.store.Store.{Store}
 use Rattle.row_versions.specs.Found.{finds}
 use Rattle.row_versions.specs.Stands.{lowest_other}
 use Rattle.row_versions.specs.Store.{versions_at, edits_at}
-
--- Searches over several keys: the least or the greatest key at which a view finds something, and the lowest other session
--- that has one of them open.
 
 -- what a view finds at a key
 abbrev pub finds_at : {K D : Type 0} → (K → K → Ordering) → Transactions → Snapshot → Store K D → K → Option D

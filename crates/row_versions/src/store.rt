@@ -1,6 +1,6 @@
 // The store of versions by key. Contracts read it by the versions of one key alone, and say nothing of the order between keys
 // but where a call looks for the least or the greatest key.
-ghost use Rattle.std.specs.Prelude.{◌≡◌, ◌≢◌, ℕ, ◌<◌, ◌++◌, [], ◌∷◌, length, None, Some, OnOk, OnErr, IfOk, MatchOption, filter};
+ghost use Rattle.std.specs.Prelude.{◌≡◌, ◌≢◌, ℕ, ◌<◌, ◌++◌, [], ◌∷◌, length, None, Some, OnOk, OnErr, IfOk, MatchOption, filter, false};
 ghost use Rattle.std.specs.Option.{option_copied};
 ghost use Rattle.lo_model.specs.Touch.{lower_of};
 ghost use Rattle.lo_model.specs.declared.viewer.Viewer.{Viewer};
@@ -11,7 +11,7 @@ ghost use Rattle.row_versions.specs.Found.{is_erasure, is_settled};
 ghost use Rattle.row_versions.specs.Looks.{IsLook};
 ghost use Rattle.row_versions.specs.Search.{finds_at, busy_at, HasNoneFrom, IsLeastFrom, HasNoneIn, IsGreatestIn, IsFreeIn, IsLowestIn};
 ghost use Rattle.row_versions.specs.Stands.{vacuumed};
-ghost use Rattle.row_versions.specs.Store.{versions_at, versions_in, edits_at, AddsVersion, SameVersions, KeepsListed, GoesWith, VacuumsKeys, is_unsettled};
+ghost use Rattle.row_versions.specs.Store.{versions_at, versions_in, edits_at, AddsVersion, SameVersions, KeepsListed, GoesWith, VacuumsKeys, is_unsettled, is_empty_at, HasNoEmpty};
 ghost use Rattle.row_versions.specs.Vacuum.{any_open, FoundUnlessErasure, OneOwner};
 ghost use Rattle.row_versions.specs.Count.{ListsHeld, clocks_left};
 ghost use Rattle.row_versions.specs.Stack.{Each, Pairwise};
@@ -65,7 +65,8 @@ impl<K: Key, D: Drop> Store<K, D> {
         requires open { 0 < length (levels_of core.old.xacts s) }
         requires free { busy_at K.cmp core.old.xacts s self.old key ≡ None }
         requires goes { GoesWith K.cmp core.old.xacts self.old }
-        ensures ok { OnOk result (AddsVersion K.cmp core.old.xacts s key (Some content) self.old self.new) }
+        ensures ok { OnOk result (AddsVersion K.cmp core.old.xacts s key
+            (Some content) self.old self.new) }
         ensures err { OnErr result (SameVersions K.cmp self.old self.new) }
         ensures goes { GoesWith K.cmp core.old.xacts self.new }
         ensures core { core.new ≡ core.old }
@@ -205,7 +206,8 @@ impl<K: Key, D: Drop> Store<K, D> {
 
         // The puts that are left of a key are what kept views find, each once, where one clock is one session's request.
         ensures puts { (key : K)
-            → Each (FoundUnlessErasure is_erasure (kept_views core.now.xacts) (edits_at K.cmp core.now.xacts self.old key))
+            → Each (FoundUnlessErasure is_erasure (kept_views core.now.xacts)
+            (edits_at K.cmp core.now.xacts self.old key))
             (edits_at K.cmp core.now.xacts self.new key) }
         ensures held { (key : K) → Pairwise OneOwner (edits_at K.cmp core.now.xacts self.old key)
             → ListsHeld is_erasure (kept_views core.now.xacts)
@@ -237,8 +239,15 @@ fn add<K: Key, D: Drop>(
 ) -> Result<(), NoMemory>
     ensures here { OnOk result (versions_in K.cmp chains.new key
         ≡ versions_in K.cmp chains.old key ++ version_of entry ∷ []) }
-    ensures others { OnOk result ((k : K) → k ≢ key → versions_in K.cmp chains.new k ≡ versions_in K.cmp chains.old k) }
-    ensures err { OnErr result ((k : K) → versions_in K.cmp chains.new k ≡ versions_in K.cmp chains.old k) }
+    ensures others { OnOk result ((k : K) → k ≢ key →
+        versions_in K.cmp chains.new k ≡ versions_in K.cmp chains.old k) }
+    ensures err { OnErr result ((k : K) →
+        versions_in K.cmp chains.new k ≡ versions_in K.cmp chains.old k) }
+    ensures full { OnOk result (is_empty_at K.cmp chains.new key ≡ false) }
+    ensures full_others { OnOk result ((k : K) → k ≢ key →
+        is_empty_at K.cmp chains.new k ≡ is_empty_at K.cmp chains.old k) }
+    ensures full_err { OnErr result ((k : K) →
+        is_empty_at K.cmp chains.new k ≡ is_empty_at K.cmp chains.old k) }
 {
     match chains.get_mut(&key) {
         Some(entries) => {
@@ -258,8 +267,9 @@ fn reclaim_all<K: Key, D: Drop>(
     keys: &BTreeSet<K>,
     core: &Xacts,
 )
-    ensures { VacuumsKeys K.cmp core.now keys.now.keys (versions_in K.cmp chains.old)
+    ensures vacuums { VacuumsKeys K.cmp core.now keys.now.keys (versions_in K.cmp chains.old)
         (versions_in K.cmp chains.new) }
+    ensures full { HasNoEmpty K.cmp chains.old → HasNoEmpty K.cmp chains.new }
 {
     for key in keys.iter() {
         reclaim_key(chains, *key, core);
@@ -270,7 +280,11 @@ fn reclaim_all<K: Key, D: Drop>(
 fn reclaim_key<K: Key, D: Drop>(chains: &mut BTreeMap<K, Vec<Entry<D>>>, key: K, core: &Xacts)
     ensures here { versions_in K.cmp chains.new key
         ≡ vacuumed is_erasure core.now (versions_in K.cmp chains.old key) }
-    ensures others { (k : K) → k ≢ key → versions_in K.cmp chains.new k ≡ versions_in K.cmp chains.old k }
+    ensures others { (k : K) → k ≢ key → versions_in K.cmp chains.new k
+        ≡ versions_in K.cmp chains.old k }
+    ensures full { is_empty_at K.cmp chains.new key ≡ false }
+    ensures full_others { (k : K) → k ≢ key →
+        is_empty_at K.cmp chains.new k ≡ is_empty_at K.cmp chains.old k }
 {
     let Some(entries) = chains.get_mut(&key) else {
         return;

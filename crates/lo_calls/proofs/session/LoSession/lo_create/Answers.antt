@@ -1,11 +1,12 @@
 use Rattle.std.proofs.Common.{◌+◌, refl, ap, arith, rules}
 use Rattle.row_versions.specs.declared.Core.{Core}
 use Rattle.lo_calls.specs.World.{world}
-use Rattle.lo_calls.proofs.Worlds.{store_keeps, nothing_keeps}
+use Rattle.lo_calls.proofs.Keeping.{keeps_same}
+use Rattle.lo_calls.proofs.Worlds.{store_keeps}
 use Rattle.lo_calls.proofs.session.LoSession.lo_create.Goals as goal
 
 pub returns-in_err-number-clause-keeps : goal.returns-in_err-number-clause-keeps
-returns-in_err-number-clause-keeps c = nothing_keeps (world c.args.core.now.xacts c.args.store.now c.args.self.now) c.requires.ready
+returns-in_err-number-clause-keeps c = keeps_same (world c.args.core.now.xacts c.args.store.now c.args.self.now) c.requires.ready
 
 pub returns-in_err-create-clause-keeps : goal.returns-in_err-create-clause-keeps
 returns-in_err-create-clause-keeps c =

@@ -7,7 +7,8 @@ use Rattle.lo_calls.specs.ObjectRows.{put_row}
 use Rattle.lo_calls.specs.World.{world, Denies}
 use Rattle.lo_calls.proofs.Putting.{put_missing, put_bad_offset, put_denied, put_done}
 use Rattle.lo_calls.proofs.Refusing.{refused_by, denied_by}
-use Rattle.lo_calls.proofs.Worlds.{store_keeps, nothing_keeps}
+use Rattle.lo_calls.proofs.Keeping.{keeps_same}
+use Rattle.lo_calls.proofs.Worlds.{store_keeps}
 use Rattle.lo_calls.proofs.session.LoSession.lo_put.Goals as goal
 
 pub returns-then-not-exists-clause-err : goal.returns-then-not-exists-clause-err
@@ -16,7 +17,7 @@ returns-then-not-exists-clause-err c =
     subst (λ (d : Denied). Denies (put_row c.args.oid c.args.at c.args.bytes.now) w w d) (sym c.no_object.ensures) (put_missing c.args.oid c.args.at c.args.bytes.now w c.requires.ready c.snapshot-snap.result c.snapshot-snap.ensures.view c.exists.result c.exists.ensures c.if-not-exists.true)
 
 pub returns-then-not-exists-clause-keeps : goal.returns-then-not-exists-clause-keeps
-returns-then-not-exists-clause-keeps c = nothing_keeps (world c.args.core.now.xacts c.args.store.now c.args.self.now) c.requires.ready
+returns-then-not-exists-clause-keeps c = keeps_same (world c.args.core.now.xacts c.args.store.now c.args.self.now) c.requires.ready
 
 pub returns-in_err-offset-clause-err : goal.returns-in_err-offset-clause-err
 returns-in_err-offset-clause-err c =
@@ -25,7 +26,7 @@ returns-in_err-offset-clause-err c =
     refused_by _ c.from_residual.result c.in_err-offset.field-0.0 c.from_residual.ensures.1 (put_bad_offset c.args.oid c.args.at c.args.bytes.now w c.requires.ready c.snapshot-snap.result c.snapshot-snap.ensures.view c.exists.result c.exists.ensures c.if-not-exists.false c.in_err-offset.field-0.0 (subst (λ (z : ℤ). IsNoOffset z c.in_err-offset.field-0.0) at c.in_err-offset.ensures.err))
 
 pub returns-in_err-offset-clause-keeps : goal.returns-in_err-offset-clause-keeps
-returns-in_err-offset-clause-keeps c = nothing_keeps (world c.args.core.now.xacts c.args.store.now c.args.self.now) c.requires.ready
+returns-in_err-offset-clause-keeps c = keeps_same (world c.args.core.now.xacts c.args.store.now c.args.self.now) c.requires.ready
 
 pub returns-in_err-write-clause-err : goal.returns-in_err-write-clause-err
 returns-in_err-write-clause-err c =

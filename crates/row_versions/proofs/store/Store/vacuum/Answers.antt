@@ -5,13 +5,14 @@ use Rattle.row_versions.proofs.Vacuumed.{vacuumed_finds, vacuumed_open, vacuumed
 use Rattle.row_versions.proofs.store.Store.vacuum.Goals as goal
 
 pub returns-clause-versions : goal.returns-clause-versions
-returns-clause-versions g c = all_keys g.K.Ord.cmp g.met.K.Ord.total g.met.K.Key.exact c.args.core.now.xacts c.args.self.now.unsettled.keys (versions_in g.K.Ord.cmp c.args.self.now.chains) (versions_in g.K.Ord.cmp c.reclaim_all.new.chains) c.requires.goes.stacks c.requires.goes.listed.settled c.reclaim_all.ensures
+returns-clause-versions g c = all_keys g.K.Ord.cmp g.met.K.Ord.total g.met.K.Key.exact c.args.core.now.xacts c.args.self.now.unsettled.keys (versions_in g.K.Ord.cmp c.args.self.now.chains) (versions_in g.K.Ord.cmp c.reclaim_all.new.chains) c.requires.goes.stacks c.requires.goes.listed.settled c.reclaim_all.ensures.vacuums
 
 pub returns-clause-goes : goal.returns-clause-goes
 returns-clause-goes g c =
     goes_vacuumed g.K.Ord.cmp g.met.K.Ord.total g.met.K.Key.exact c.args.core.now.xacts c.args.self.now _
     (returns-clause-versions g c)
-    (record { settled = still_listed g.K.Ord.cmp g.met.K.Ord.total g.met.K.Key.exact c.args.core.now.xacts c.args.self.now.unsettled.keys c.settle.new.keys.keys (versions_in g.K.Ord.cmp c.args.self.now.chains) (versions_in g.K.Ord.cmp c.reclaim_all.new.chains) c.requires.goes.stacks c.requires.goes.listed.settled c.reclaim_all.ensures c.settle.ensures })
+    (record { settled = still_listed g.K.Ord.cmp g.met.K.Ord.total g.met.K.Key.exact c.args.core.now.xacts c.args.self.now.unsettled.keys c.settle.new.keys.keys (versions_in g.K.Ord.cmp c.args.self.now.chains) (versions_in g.K.Ord.cmp c.reclaim_all.new.chains) c.requires.goes.stacks c.requires.goes.listed.settled c.reclaim_all.ensures.vacuums c.settle.ensures })
+    (c.reclaim_all.ensures.full c.requires.goes.full)
     c.requires.goes
 
 pub returns-clause-finds : goal.returns-clause-finds
