@@ -39,3 +39,6 @@ found_is fd descs index d finds is = finds.found ∙ ap (λ (e : Descriptor). So
 
 pub found_among : (fd : ℤ) (descs : Descs) (index : ℕ) (d : Descriptor) → FindsDescriptor fd descs index → d ≡ get_or descs.entries.items index d → Contains descs.entries.items d
 found_among fd descs index d finds is = (index, found_within fd descs index finds, sym is)
+
+pub found_writes : (fd : ℤ) (descs : Descs) (index : ℕ) (d : Descriptor) → (found : FindsWritable fd descs index) → d ≡ get_or descs.entries.items index d → d.hold ≡ None
+found_writes fd descs index d found is = ap (λ (e : Descriptor). e.hold) (found_there fd descs index found.finds d is) ∙ found.writes

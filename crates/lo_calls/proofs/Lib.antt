@@ -20,3 +20,4 @@ pub mod Sizing
 pub mod Telling
 pub mod Unlinking
 pub mod Worlds
+pub mod Writing

@@ -64,6 +64,7 @@ impl Pages {
             (write_made core.old.xacts s oid at bytes.now) self.old self.new) }
         ensures err { IfErr result (Denies core.old.xacts s
             (write_refused core.old.xacts s oid at bytes.now) self.old self.new) }
+        ensures small { OnOk result (at + length bytes.now ≤ LARGEST_SIZE) }
         // Of an object that the session has to itself no small write is refused.
         ensures alone { HasAlone core.old.xacts s oid self.old →
             at + length bytes.now ≤ LARGEST_SIZE → IfErr result IsNoMemory }
