@@ -30,7 +30,7 @@ use Rattle.lo_calls.proofs.Rows.{write_found}
 use Rattle.lo_calls.proofs.Worlds.{made_of, pages_deny}
 
 -- two terms, of which one holds, are enough to know the first that does
-first_more : (one two : Option Refusal) (rest : List (Option Refusal)) (r : Refusal) → first_of (one ∷ two ∷ []) ≡ Some r → first_of (one ∷ two ∷ rest) ≡ Some r
+pub first_more : (one two : Option Refusal) (rest : List (Option Refusal)) (r : Refusal) → first_of (one ∷ two ∷ []) ≡ Some r → first_of (one ∷ two ∷ rest) ≡ Some r
 first_more None None rest r first = absurd (cc)
 first_more None (Some two) rest r first = first
 first_more (Some one) two rest r first = first
@@ -40,7 +40,7 @@ pub none_writable : (row : Here → Row) (rest : Here → List (Option Refusal))
 none_writable row rest fd w r none is = record { first = λ ys stands. ap first_of (is (here_of w ys)) ∙ first_more _ _ (rest (here_of w ys)) r none.first; same = refl }
 
 -- a descriptor without a hold may write
-may_write : (d : Descriptor) → d.hold ≡ None → not_writable (described_by d) ≡ None
+pub may_write : (d : Descriptor) → d.hold ≡ None → not_writable (described_by d) ≡ None
 may_write d writes = rw writes refl
 
 module _ (fd : ℤ) (bytes : List ℕ) (w : World) (d : Descriptor) (found : described_at fd (descriptors_of w.session.descs) ≡ Some (described_by d)) (writes : d.hold ≡ None) where
