@@ -4,6 +4,7 @@ pub mod Descriptors
 pub mod DescriptorRows
 pub mod Numbers
 pub mod ObjectRows
+pub mod Pair
 pub mod Reading
 pub mod Row
 pub mod Terms

@@ -11,3 +11,6 @@ mod store;
 pub use descs::Descs;
 pub use session::LoSession;
 pub use store::LoStore;
+
+#[cfg(test)]
+mod object_tests;
