@@ -1,6 +1,8 @@
 -- The descriptor of a number: where it stands, and that none is a refusal.
-use Rattle.std.proofs.Common.{◌≡◌, ◌<◌, ℕ, ℤ, pos, List, [], ◌∷◌, length, vec_len, get_or, arith, Option, Some, None, refl, ap, sym, subst, ◌∙◌}
+use Rattle.std.proofs.Common.{◌≡◌, ◌≤◌, ◌<◌, ℕ, ℤ, pos, List, [], ◌∷◌, length, vec_len, get_or, arith, Option, Some, None, refl, ap, sym, subst, ◌∙◌}
 use Rattle.std.specs.Prelude.{Contains}
+use Rattle.std.proofs.lemmas.List.Elements.{All-contains}
+use Rattle.xact_core.specs.Transactions.{Transactions}
 use Rattle.std.proofs.lemmas.Option.{slice_get_within, get_or_from_slice_get}
 use Rattle.lo_base.specs.declared.refusal.Refusal.{Refusal}
 use Rattle.lo_model.specs.Edit.{Deed, Edit}
@@ -8,7 +10,7 @@ use Rattle.lo_pages.specs.Outcome.{first_of}
 use Rattle.lo_calls.specs.Access.{FindsWritable}
 use Rattle.lo_calls.specs.declared.descs.Descriptor.{Descriptor}
 use Rattle.lo_calls.specs.declared.descs.Descs.{Descs}
-use Rattle.lo_calls.specs.Descriptors.{described_by, described_at, descriptors_of, FindsDescriptor, FindsNone}
+use Rattle.lo_calls.specs.Descriptors.{described_by, described_at, descriptors_of, last_position, AreOpen, FindsDescriptor, FindsNone}
 use Rattle.lo_calls.specs.DescriptorRows.{no_descriptor, descriptor_of}
 use Rattle.lo_calls.specs.Row.{Here, Row}
 use Rattle.lo_calls.specs.World.{World, here_of, Refuses}
@@ -42,3 +44,7 @@ found_among fd descs index d finds is = (index, found_within fd descs index find
 
 pub found_writes : (fd : ℤ) (descs : Descs) (index : ℕ) (d : Descriptor) → (found : FindsWritable fd descs index) → d ≡ get_or descs.entries.items index d → d.hold ≡ None
 found_writes fd descs index d found is = ap (λ (e : Descriptor). e.hold) (found_there fd descs index found.finds d is) ∙ found.writes
+
+-- what is so of each open descriptor
+pub found_position : (fd : ℤ) (descs : Descs) (index : ℕ) (d : Descriptor) (x : Transactions) (s : ℕ) → FindsDescriptor fd descs index → d ≡ get_or descs.entries.items index d → AreOpen x s descs → d.position ≤ last_position
+found_position fd descs index d x s finds is are = All-contains (λ (e : Descriptor). e.position ≤ last_position) descs.entries.items d are.positions (found_among fd descs index d finds is)

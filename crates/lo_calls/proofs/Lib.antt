@@ -4,6 +4,7 @@ pub mod Closing
 pub mod Creating
 pub mod Ending
 pub mod Entries
+pub mod Fetching
 pub mod Finding
 pub mod Getting
 pub mod Keeping

@@ -13,6 +13,9 @@ use xact_core::Snapshot;
 /// The most bytes that one call reads.
 const READ_LIMIT: u64 = 16777216;
 
+/// No object has a byte from here on, since numbers of pages have 32 bits.
+const OBJECT_END: u64 = 8796093022208;
+
 /// The object's bytes in a view from an offset on, at most so many. It is refused with `TooMuch` where these are more than
 /// `READ_LIMIT`.
 pub(crate) fn read_bytes(
@@ -28,12 +31,10 @@ pub(crate) fn read_bytes(
     ensures ok { IfOk result (ReadsPart core.now.xacts snap.now store.now.pages oid at most) }
     ensures err { IfErr result (DeniesPart core.now.xacts snap.now store.now.pages oid at most) }
 {
-    let size = store.pages.size(core, snap, oid);
-    let count = size.saturating_sub(at).min(most);
+    let end = store.pages.size(core, snap, oid).min(OBJECT_END);
+    let count = end.saturating_sub(at).min(most);
     if count > READ_LIMIT {
-        // No object has so many bytes that this could not be told.
-        let count = i64::try_from(count).unwrap_or(i64::MAX);
-        return Err(refused(Cause::TooMuch, count));
+        return Err(refused(Cause::TooMuch, count as i64));
     }
     let mut bytes = zeros(alloc, count as usize)?;
     store.pages.read_into(core, snap, oid, at, &mut bytes);
