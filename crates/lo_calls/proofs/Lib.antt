@@ -1,3 +1,5 @@
+pub mod Beginning
+pub mod Benching
 pub mod Busy
 pub mod Cancelling
 pub mod Closing

@@ -43,6 +43,7 @@ impl Descs {
     pub fn new(alloc: Global) -> Result<Descs, NoMemory>
         ensures none { IfOk result (λ descs. descriptors_of descs ≡ []) }
         ensures holds { IfOk result (λ descs. holds_of descs ≡ []) }
+        ensures open { (x : Transactions) (s : ℕ) → IfOk result (AreOpen x s) }
     {
         Ok(Descs {
             alloc,

@@ -1,6 +1,8 @@
 // Tests of the calls that name an object, over real transactions. A bench keeps two sessions ready, so that a test is a list
 // of acts.
-ghost use Rattle.std.specs.Prelude.{◌≤◌};
+ghost use Rattle.std.specs.Prelude.{◌≡◌, ◌≤◌, []};
+ghost use Rattle.xact_core.specs.Transactions.{Transactions};
+ghost use Rattle.lo_calls.specs.Descriptors.{holds_of, AreOpen};
 ghost use Rattle.lo_calls.specs.Pair.{AreReady};
 
 use crate::descs::Descs;
@@ -87,7 +89,11 @@ fn is_content(answered: &Result<Bytes, Denied>, answer: Answer) -> bool {
     }
 }
 
-fn session_of(rt: &impl Abort, alloc: Global, number: u8) -> LoSession {
+fn session_of(rt: &impl Abort, alloc: Global, number: u8) -> LoSession
+    ensures number { result.s ≡ number }
+    ensures holds { holds_of result.descs ≡ [] }
+    ensures open { (x : Transactions) → AreOpen x result.s result.descs }
+{
     LoSession {
         descs: Descs::new(alloc).expect(rt, "memory"),
         s: SessionNo::new(number).expect(rt, "a session"),
@@ -103,6 +109,8 @@ impl Bench {
         let session = session_of(rt, alloc, 1);
         let other = session_of(rt, alloc, 2);
         let mut xacts = Xacts::new(alloc).expect(rt, "memory");
+        assert_eq!(rt; xacts.levels(session.s), 0);
+        assert!(rt; xacts.views() < 1000);
         xacts.begin(session.s).expect(rt, "memory");
         assert_eq!(rt; xacts.levels(other.s), 0);
         assert!(rt; xacts.views() < 1000);
@@ -118,30 +126,37 @@ impl Bench {
         }
     }
 
-    /// Ends the session's transaction, and begins again.
-    fn again(&mut self, rt: &impl Abort, commits: bool)
+    /// Commits the session's transaction, and begins again.
+    fn commit(&mut self, rt: &impl Abort)
         requires ready { AreReady self.old.core.xacts self.old.store self.old.session self.old.other }
         ensures ready { AreReady self.new.core.xacts self.new.store self.new.session self.new.other }
     {
-        let s = self.session.s;
         self.session.descs.end_all(&mut self.core.xacts);
-        if commits {
-            self.core.xacts.commit(s);
-        } else {
-            self.core.xacts.abort(s);
-        }
+        self.core.xacts.commit(self.session.s);
         assert!(rt; self.core.xacts.views() < 1000);
-        self.core.xacts.begin(s).expect(rt, "memory");
+        self.core.xacts.begin(self.session.s).expect(rt, "memory");
+    }
+
+    /// Undoes the session's transaction, and begins again.
+    fn rollback(&mut self, rt: &impl Abort)
+        requires ready { AreReady self.old.core.xacts self.old.store self.old.session self.old.other }
+        ensures ready { AreReady self.new.core.xacts self.new.store self.new.session self.new.other }
+    {
+        self.session.descs.end_all(&mut self.core.xacts);
+        self.core.xacts.abort(self.session.s);
+        assert!(rt; self.core.xacts.views() < 1000);
+        self.core.xacts.begin(self.session.s).expect(rt, "memory");
     }
 
     /// Does an act, or compares what it expects.
+    #[tactic(auto, using(crate::proofs::Benching::kept_ready, crate::proofs::Benching::swapped))]
     fn act(&mut self, rt: &impl Abort, act: &Act)
         requires ready { AreReady self.old.core.xacts self.old.store self.old.session self.old.other }
         ensures ready { AreReady self.new.core.xacts self.new.store self.new.session self.new.other }
     {
         match act {
-            Act::Commit => self.again(rt, true),
-            Act::Rollback => self.again(rt, false),
+            Act::Commit => self.commit(rt),
+            Act::Rollback => self.rollback(rt),
             Act::Switch => std::mem::swap(&mut self.session, &mut self.other),
             Act::Create(oid, answer) => {
                 let answered = self
