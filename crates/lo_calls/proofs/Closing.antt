@@ -1,5 +1,5 @@
 -- Closing descriptors: what each gives back, and what is left of a list of them.
-use Rattle.std.proofs.Common.{ℕ, zero, suc, ◌+◌, ◌-◌, ◌<◌, ◌≤◌, ◌≡◌, ◌⊎◌, inl, inr, Bool, true, false, List, [], ◌∷◌, ◌++◌, length, map, Option, Some, None, refl, ap, sym, subst, ◌∙◌, arith, get_or, take, drop, append_assoc, length-take, take-append-drop}
+use Rattle.std.proofs.Common.{ℕ, suc, ◌<◌, ◌≤◌, ◌≡◌, Bool, true, false, List, [], ◌∷◌, ◌++◌, length, map, Option, Some, None, refl, ap, sym, subst, ◌∙◌, arith, get_or, take, drop, append_assoc, length-take, take-append-drop}
 use Rattle.std.specs.Prelude.{IsPermutation, Contains, remove, All, IfSome, filter, not, nat_le, nat_lt, ◌==◌}
 use Rattle.std.proofs.Math.Seq.{take-append_seam}
 use Rattle.std.proofs.lemmas.Bool.Decides.{nat_tests}
@@ -16,7 +16,7 @@ use Rattle.lo_calls.specs.declared.descs.Closing.{Closing}
 use Rattle.lo_calls.specs.declared.descs.Closing.TheVariants.{FromLevel, OnObject, OfNumber}
 use Rattle.lo_calls.specs.declared.descs.Descriptor.{Descriptor}
 use Rattle.lo_calls.specs.declared.descs.Descs.{Descs}
-use Rattle.lo_calls.specs.Descriptors.{described_by, held_by, holds_in, holds_of, closes, left_open, last_position, AreOpen, AreHeld, IsOwnHold, GivesBack, HoldsRest, Ends}
+use Rattle.lo_calls.specs.Descriptors.{described_by, held_by, holds_in, holds_of, closes, left_open, last_position, AreHeld, IsOwnHold, GivesBack, Ends}
 use Rattle.lo_calls.proofs.Cancelling.{cancelled}
 use Rattle.lo_calls.proofs.Entries.{rest_from}
 

@@ -1,5 +1,5 @@
 -- lo_close, where it closes a descriptor.
-use Rattle.std.proofs.Common.{◌≡◌, ℕ, ℤ, pos, List, [], ◌++◌, map, get_or, Some, None, refl, ap, sym, subst, ◌∙◌, append-nil}
+use Rattle.std.proofs.Common.{◌≡◌, ℕ, ℤ, pos, List, map, get_or, refl, ap, sym, subst, ◌∙◌, append-nil}
 use Rattle.lo_base.specs.declared.reply.Reply.TheVariants.{Number}
 use Rattle.lo_model.specs.Descriptor.{without_number}
 use Rattle.lo_model.specs.Edit.{Deed, Edit}

@@ -1,7 +1,6 @@
 -- Lists of descriptors, as the code has them and as contracts see them: searches by number, and free numbers.
-use Rattle.std.proofs.Common.{ℕ, zero, suc, ◌+◌, ◌-◌, ◌<◌, ◌≤◌, ◌≡◌, ◌⊎◌, inl, inr, Bool, true, false, List, [], ◌∷◌, ◌++◌, length, map, Option, Some, None, ℤ, pos, refl, ap, sym, subst, ◌∙◌, arith, get_or, take, drop, drop-cons}
+use Rattle.std.proofs.Common.{ℕ, suc, ◌+◌, ◌-◌, ◌<◌, ◌≤◌, ◌≡◌, ◌⊎◌, inl, inr, Bool, true, false, List, [], ◌∷◌, length, map, Some, ℤ, pos, refl, ap, sym, subst, ◌∙◌, arith, get_or, drop, drop-cons}
 use Rattle.std.specs.Prelude.{negsuc, ◌==◌, if◌then◌else◌}
-use Rattle.std.specs.List.{list_any, find}
 use Rattle.std.proofs.lemmas.Bool.{cases_eq}
 use Rattle.std.proofs.lemmas.Bool.Decides.{nat_tests}
 use Rattle.std.proofs.lemmas.List.{length-map}

@@ -1,12 +1,11 @@
 -- lo_read, at each of its exits behind the search of its descriptor.
-use Rattle.std.proofs.Common.{◌≡◌, ◌≤◌, ◌<◌, ℕ, ℤ, pos, ◌+◌, Bool, List, [], ◌∷◌, length, take, drop, Option, Some, None, refl, ap, sym, subst, ◌∙◌, arith, append-nil, w32, FitsSigned}
+use Rattle.std.proofs.Common.{◌≡◌, ◌≤◌, ◌<◌, ℕ, ℤ, pos, ◌+◌, List, length, Some, refl, ap, sym, subst, ◌∙◌, arith, append-nil, w32, FitsSigned}
 use Rattle.std.specs.Prelude.{Result, Ok, Err, negsuc}
 use Rattle.std.specs.Int.{FitsUnsignedBits}
 use Rattle.std.specs.Result.{OkIff, result_unwrap_or}
 use Rattle.std.proofs.Math.IntN.{nat_abs}
 use Rattle.lo_base.specs.declared.refusal.Denied.{Denied}
 use Rattle.lo_base.specs.declared.refusal.Denied.TheVariants.{By, NoMemory}
-use Rattle.lo_base.specs.declared.refusal.Refusal.{Refusal}
 use Rattle.lo_base.specs.declared.reply.Reply.TheVariants.{Content}
 use Rattle.lo_model.specs.Descriptor as model
 use Rattle.lo_model.specs.Edit.{Deed, Edit}

@@ -1,17 +1,16 @@
 -- The descriptor of a number: where it stands, and that none is a refusal.
-use Rattle.std.proofs.Common.{◌≡◌, ◌≤◌, ◌<◌, ℕ, ℤ, pos, List, [], ◌∷◌, length, vec_len, get_or, arith, Option, Some, None, refl, ap, sym, subst, ◌∙◌}
+use Rattle.std.proofs.Common.{◌≡◌, ◌≤◌, ◌<◌, ℕ, ℤ, pos, List, ◌∷◌, length, vec_len, get_or, arith, Option, Some, None, refl, ap, sym, ◌∙◌}
 use Rattle.std.specs.Prelude.{Contains}
 use Rattle.std.proofs.lemmas.List.Elements.{All-contains}
 use Rattle.xact_core.specs.Transactions.{Transactions}
 use Rattle.std.proofs.lemmas.Option.{slice_get_within, get_or_from_slice_get}
 use Rattle.lo_base.specs.declared.refusal.Refusal.{Refusal}
-use Rattle.lo_model.specs.Edit.{Deed, Edit}
 use Rattle.lo_pages.specs.Outcome.{first_of}
 use Rattle.lo_calls.specs.Access.{FindsWritable}
 use Rattle.lo_calls.specs.declared.descs.Descriptor.{Descriptor}
 use Rattle.lo_calls.specs.declared.descs.Descs.{Descs}
 use Rattle.lo_calls.specs.Descriptors.{described_by, described_at, descriptors_of, last_position, AreOpen, FindsDescriptor, FindsNone}
-use Rattle.lo_calls.specs.DescriptorRows.{no_descriptor, descriptor_of}
+use Rattle.lo_calls.specs.DescriptorRows.{no_descriptor}
 use Rattle.lo_calls.specs.Row.{Here, Row}
 use Rattle.lo_calls.specs.World.{World, here_of, Refuses}
 

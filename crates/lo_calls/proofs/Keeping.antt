@@ -1,6 +1,5 @@
 -- What a call on descriptors keeps, where some of them ended, or moved, or nothing changed.
-use Rattle.std.proofs.Common.{◌≡◌, ◌≤◌, ◌<◌, ℕ, ◌+◌, List, ◌++◌, length, refl, ap, sym, subst, ◌∙◌, arith}
-use Rattle.xact_core.specs.declared.snapshot.Snapshot.{Snapshot}
+use Rattle.std.proofs.Common.{◌≡◌, ◌≤◌, ◌<◌, length, refl, sym, subst, arith}
 use Rattle.xact_core.specs.Transactions.{Transactions, levels_of}
 use Rattle.lo_pages.specs.Standing.{GoWith}
 use Rattle.lo_pages.proofs.Standing.{go_held}

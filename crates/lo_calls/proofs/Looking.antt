@@ -1,8 +1,7 @@
 -- The view that a descriptor reads in, and what it reads there.
-use Rattle.std.proofs.Common.{◌≡◌, ◌<◌, ℕ, ℤ, pos, ◌+◌, List, length, get_or, Option, Some, None, refl, ap, sym, subst, ◌∙◌}
+use Rattle.std.proofs.Common.{◌≡◌, ℕ, ℤ, pos, ◌+◌, List, length, Option, Some, refl, ap, sym, subst, ◌∙◌}
 use Rattle.std.specs.Prelude.{Contains, IfSome}
 use Rattle.std.proofs.lemmas.List.Elements.{All-contains}
-use Rattle.lo_model.specs.declared.viewer.Viewer.{Viewer}
 use Rattle.lo_model.specs.declared.viewer.Viewer.TheVariants.{Whole}
 use Rattle.lo_model.specs.Descriptor as model
 use Rattle.lo_model.specs.Edit.{Deed, Edit}

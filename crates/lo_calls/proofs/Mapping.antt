@@ -1,5 +1,5 @@
 -- A list whose items are changed from the front on, one by one.
-use Rattle.std.proofs.Common.{ℕ, zero, suc, ◌<◌, ◌≤◌, ◌≡◌, ◌++◌, List, [], ◌∷◌, length, map, refl, ap, sym, subst, ◌∙◌, ◌+◌, add-one, arith, get_or, set, drop, Vec}
+use Rattle.std.proofs.Common.{ℕ, zero, suc, ◌<◌, ◌≤◌, ◌≡◌, List, [], ◌∷◌, length, map, refl, ap, sym, subst, ◌∙◌, ◌+◌, add-one, arith, get_or, set, drop, Vec}
 use Rattle.std.proofs.Math.Seq.{take-append_seam}
 use Rattle.std.specs.Vec.{with_items}
 

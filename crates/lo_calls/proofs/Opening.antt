@@ -1,19 +1,17 @@
 -- lo_open, at each of its exits.
 use Rattle.std.proofs.Common.{◌≡◌, ◌≤◌, ◌<◌, ℕ, ℤ, pos, zero, suc, ◌+◌, Bool, true, false, List, [], ◌∷◌, ◌++◌, length, map, Option, Some, None, refl, ap, sym, subst, ◌∙◌, arith, append-nil, append_assoc, length-append}
-use Rattle.std.specs.Prelude.{not, ◌||◌, nat_le, IsPermutation, All, if◌then◌else◌}
+use Rattle.std.specs.Prelude.{not, ◌||◌, nat_le, IsPermutation, if◌then◌else◌}
 use Rattle.std.proofs.lemmas.Bool.Decides.{nat_tests}
 use Rattle.std.proofs.lemmas.List.{length-map, map-append}
 use Rattle.std.proofs.lemmas.List.Elements.{All-push}
 use Rattle.std.proofs.lemmas.List.Sorted.{IsPermutation-trans, IsPermutation-append_left, IsPermutation-append_right, IsPermutation-append_comm}
 use Rattle.lo_base.specs.declared.refusal.Cause.TheVariants.{NoObject, BadMode, TooManyDescriptors}
-use Rattle.lo_base.specs.declared.refusal.Refusal.{Refusal}
 use Rattle.lo_base.specs.declared.reply.Reply.TheVariants.{Number}
-use Rattle.lo_model.specs.declared.viewer.Viewer.TheVariants.{Whole}
 use Rattle.lo_model.specs.Descriptor as model
 use Rattle.lo_model.specs.Edit.{Deed, Edit}
 use Rattle.lo_model.specs.Listing.{has_object}
 use Rattle.xact_core.specs.declared.snapshot.Snapshot.{Snapshot}
-use Rattle.xact_core.specs.Kept.{current, kept_views, HoldsOthers}
+use Rattle.xact_core.specs.Kept.{current}
 use Rattle.xact_core.specs.Transactions.{Transactions, levels_of}
 use Rattle.lo_pages.specs.Outcome.{first_of}
 use Rattle.lo_pages.specs.Standing.{StandFor, ReadsAs}
@@ -22,7 +20,7 @@ use Rattle.lo_pages.proofs.Steps.{left_none}
 use Rattle.lo_calls.specs.declared.descs.Descriptor.{Descriptor}
 use Rattle.lo_calls.specs.declared.descs.Descs.{Descs}
 use Rattle.lo_calls.specs.DescriptorRows.{may_read, may_write, opened_by, open_row}
-use Rattle.lo_calls.specs.Descriptors.{reading_of, described_by, descriptors_of, held_by, holds_in, holds_of, last_position, AreOpen, IsOwnHold}
+use Rattle.lo_calls.specs.Descriptors.{reading_of, described_by, descriptors_of, held_by, holds_in, holds_of, last_position, IsOwnHold}
 use Rattle.lo_calls.specs.Access.{HoldsFor}
 use Rattle.lo_calls.specs.World.{World, world, here_of, IsReady, IsGranted, Grants, Refuses, FindsNoMemory, Keeps}
 use Rattle.lo_calls.proofs.Closing.{holds_same, holds_append}

@@ -1,16 +1,10 @@
 -- The rows of the calls on descriptors, where a descriptor of the number is open, and where none is.
-use Rattle.std.proofs.Common.{◌≡◌, ℕ, ℤ, pos, ◌+◌, Bool, true, false, List, [], ◌∷◌, ◌++◌, length, Option, Some, None, refl, ap, sym, ◌∙◌}
-use Rattle.std.specs.Prelude.{is_none}
-use Rattle.lo_base.specs.declared.refusal.Cause.TheVariants.{NoDescriptor}
-use Rattle.lo_base.specs.declared.refusal.Refusal.{Refusal}
-use Rattle.lo_base.specs.declared.reply.Reply.TheVariants.{Number, Content}
+use Rattle.std.proofs.Common.{◌≡◌, ℕ, ℤ, pos, Bool, List, [], ◌∷◌, length, Some, None}
+use Rattle.lo_base.specs.declared.reply.Reply.TheVariants.{Number}
 use Rattle.lo_model.specs.Descriptor.{Descriptor}
-use Rattle.lo_pages.specs.Outcome.{first_of}
-use Rattle.lo_calls.specs.DescriptorRows.{descriptor_of, of_descriptor, at_descriptor, bytes_read, read_at, read_row, not_writable, object_gone, writes_at, write_at, write_row, bad_whence, bad_seek, seek_target, seek_at, seek_row, position_range, tell_row, cuts_at, bad_truncate, truncate_row}
-use Rattle.lo_calls.specs.Row.{Here, Granted, Row, answered, edited}
-use Rattle.lo_calls.specs.Terms.{when, bad_write, too_much, busy_for, count_of}
-use Rattle.lo_calls.specs.World.{World, here_of, Refuses}
-use Rattle.lo_calls.specs.Descriptors.{FindsNone}
+use Rattle.lo_calls.specs.DescriptorRows.{descriptor_of, bytes_read, read_at, read_row, not_writable, object_gone, writes_at, write_at, write_row, bad_whence, bad_seek, seek_target, seek_at, seek_row, position_range, tell_row, cuts_at, bad_truncate, truncate_row}
+use Rattle.lo_calls.specs.Row.{Here, answered, edited}
+use Rattle.lo_calls.specs.Terms.{bad_write, too_much, busy_for, count_of}
 
 module _ (here : Here) (fd : ℤ) (d : Descriptor) (found : descriptor_of here fd ≡ Some d) where
   pub read_found : (len : ℤ) → read_row fd len here ≡ record { refusals = None ∷ too_much (length (bytes_read here len d)) ∷ []; granted = read_at here len d }

@@ -1,12 +1,11 @@
 -- lo_truncate, at each of its exits.
-use Rattle.std.proofs.Common.{◌≡◌, ℕ, ℤ, pos, Bool, true, false, List, [], ◌∷◌, Option, Some, None, refl, ap, sym, subst, ◌∙◌}
+use Rattle.std.proofs.Common.{◌≡◌, ℕ, ℤ, pos, Bool, true, false, List, [], ◌∷◌, Some, None, refl, ap, sym, subst, ◌∙◌}
 use Rattle.std.specs.Prelude.{negsuc}
 use Rattle.std.specs.Int.{FitsUnsignedBits}
 use Rattle.std.proofs.Math.IntN.{nat_abs}
 use Rattle.lo_base.specs.declared.refusal.Cause.TheVariants.{NoObject, BadTruncate}
 use Rattle.lo_base.specs.declared.refusal.Denied.{Denied}
 use Rattle.lo_base.specs.declared.refusal.Denied.TheVariants.{By}
-use Rattle.lo_base.specs.declared.refusal.Refusal.{Refusal}
 use Rattle.lo_base.specs.declared.reply.Reply.TheVariants.{Number}
 use Rattle.lo_model.specs.Edit.{Deed, Cut, Edit}
 use Rattle.lo_model.specs.Listing.{has_object}

@@ -1,6 +1,6 @@
 -- lo_tell, where it answers a position.
-use Rattle.std.proofs.Common.{◌≡◌, ◌≤◌, ℕ, ℤ, pos, Bool, List, [], ◌++◌, get_or, Option, Some, None, refl, ap, sym, subst, ◌∙◌, arith, append-nil, w64, to_z, of_z, FitsSigned}
-use Rattle.std.specs.Prelude.{Result, Ok, Err}
+use Rattle.std.proofs.Common.{◌≡◌, ◌≤◌, ℕ, ℤ, pos, Bool, List, get_or, None, refl, ap, sym, subst, ◌∙◌, arith, append-nil, w64, to_z, of_z, FitsSigned}
+use Rattle.std.specs.Prelude.{Result, Ok}
 use Rattle.std.specs.Result.{OkIff, result_unwrap_or}
 use Rattle.std.proofs.lemmas.Int.{to_z-of_z}
 use Rattle.std.proofs.lemmas.Result.{Ok-from_Ok_iff}

@@ -1,14 +1,10 @@
 -- lo_write, at each of its exits behind the search of its descriptor.
-use Rattle.std.proofs.Common.{◌≡◌, ◌≤◌, ℕ, ℤ, pos, ◌+◌, List, [], ◌∷◌, ◌++◌, length, Option, Some, None, refl, ap, sym, subst, ◌∙◌}
-use Rattle.std.specs.Prelude.{not, is_none}
-use Rattle.lo_base.specs.declared.refusal.Cause.TheVariants.{NoDescriptor, NotWritable}
+use Rattle.std.proofs.Common.{◌≡◌, ℕ, ℤ, pos, ◌+◌, List, [], ◌∷◌, ◌++◌, length, Option, Some, None, refl, ap, sym, subst, ◌∙◌}
 use Rattle.lo_base.specs.declared.refusal.Denied.{Denied}
-use Rattle.lo_base.specs.declared.refusal.Denied.TheVariants.{By}
 use Rattle.lo_base.specs.declared.refusal.Refusal.{Refusal}
 use Rattle.lo_base.specs.declared.reply.Reply.TheVariants.{Number}
 use Rattle.lo_model.specs.Descriptor as model
 use Rattle.lo_model.specs.Edit.{Deed, Edit}
-use Rattle.xact_core.specs.declared.snapshot.Snapshot.{Snapshot}
 use Rattle.xact_core.specs.Transactions.{Transactions}
 use Rattle.lo_pages.specs.declared.pages.Pages.{Pages}
 use Rattle.lo_pages.specs.Outcome.{first_of, write_refused, write_made, Adds}
@@ -17,10 +13,10 @@ use Rattle.lo_pages.specs.Standing.{StandFor}
 use Rattle.lo_calls.specs.Access.{FindsNoneWritable}
 use Rattle.lo_calls.specs.declared.descs.Descriptor.{Descriptor}
 use Rattle.lo_calls.specs.declared.descs.Descs.{Descs}
-use Rattle.lo_calls.specs.DescriptorRows.{no_descriptor, descriptor_of, of_descriptor, not_writable, object_gone, writes_at, write_row}
-use Rattle.lo_calls.specs.Descriptors.{reading_of, described_by, described_at, descriptors_of}
+use Rattle.lo_calls.specs.DescriptorRows.{no_descriptor, descriptor_of, of_descriptor, not_writable, writes_at, write_row}
+use Rattle.lo_calls.specs.Descriptors.{described_by, described_at, descriptors_of}
 use Rattle.lo_calls.specs.Row.{Here, Row}
-use Rattle.lo_calls.specs.Terms.{when, no_object, bad_write, busy_for}
+use Rattle.lo_calls.specs.Terms.{no_object, bad_write}
 use Rattle.lo_calls.specs.World.{World, world, here_of, IsGranted, Grants, Refuses, Denies}
 use Rattle.lo_calls.proofs.Busy.{busy_writing}
 use Rattle.lo_calls.proofs.Keeping.{with_descs}

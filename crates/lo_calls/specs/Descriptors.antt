@@ -1,5 +1,5 @@
 -- What a session's open descriptors stand for, which views they hold, and what closes some of them.
-use Rattle.std.specs.Prelude.{◌≡◌, ◌≤◌, ℕ, ℤ, pos, negsuc, Bool, false, not, ◌==◌, nat_le, List, [], ◌∷◌, ◌++◌, length, map, filter, flat_map, All, Option, Some, None, IsPermutation, slice_get}
+use Rattle.std.specs.Prelude.{◌≡◌, ◌≤◌, ℕ, ℤ, pos, negsuc, Bool, not, ◌==◌, nat_le, List, [], ◌∷◌, ◌++◌, length, map, filter, flat_map, All, Option, Some, None, IsPermutation, slice_get}
 use Rattle.std.specs.List.{list_any}
 use Rattle.lo_model.specs.declared.viewer.Viewer.TheVariants.{Whole}
 use Rattle.lo_base.specs.declared.refusal.Cause.TheVariants.{NoDescriptor}

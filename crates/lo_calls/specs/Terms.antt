@@ -1,5 +1,5 @@
 -- The terms of refusals that several calls have. A term is a refusal where it holds, and else nothing.
-use Rattle.std.specs.Prelude.{ℕ, ℤ, pos, negsuc, ◌+◌, Bool, true, false, not, nat_lt, int_lt, List, map, Option, Some, None, is_none, if◌then◌else◌}
+use Rattle.std.specs.Prelude.{ℕ, ℤ, pos, negsuc, ◌+◌, Bool, true, not, nat_lt, int_lt, List, map, Option, Some, None, is_none, if◌then◌else◌}
 use Rattle.lo_base.specs.declared.refusal.Cause.{Cause}
 use Rattle.lo_base.specs.declared.refusal.Cause.TheVariants.{NoObject, NoOids, ObjectExists, BadSeek, BadLength, BadWrite, TooMuch, Busy}
 use Rattle.lo_base.specs.declared.refusal.Refusal.{Refusal}

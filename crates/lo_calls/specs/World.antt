@@ -1,5 +1,5 @@
 -- What a call of a session stands in and what it leaves, whatever edits the pages stood for.
-use Rattle.std.specs.Prelude.{◌≡◌, ◌≤◌, ◌<◌, ℕ, ◌+◌, List, ◌++◌, length, Some, None, Option}
+use Rattle.std.specs.Prelude.{◌≡◌, ◌≤◌, ◌<◌, ℕ, ◌+◌, List, ◌++◌, length, Some, None}
 use Rattle.lo_base.specs.declared.refusal.Denied.{Denied}
 use Rattle.lo_base.specs.declared.refusal.Denied.TheVariants.{By, NoMemory}
 use Rattle.lo_base.specs.declared.refusal.Refusal.{Refusal}
@@ -13,7 +13,7 @@ use Rattle.xact_core.specs.Transactions.{Transactions, levels_of}
 use Rattle.lo_calls.specs.declared.session.LoSession.{LoSession}
 use Rattle.lo_calls.specs.declared.store.LoStore.{LoStore}
 use Rattle.lo_calls.specs.Descriptors.{descriptors_of, holds_of, AreOpen, HoldsRest}
-use Rattle.lo_calls.specs.Row.{Here, Granted, Row}
+use Rattle.lo_calls.specs.Row.{Here, Row}
 
 -- the transactions, what all sessions share, and the session
 pub record World : Type 0 where

@@ -1,4 +1,4 @@
-use Rattle.std.proofs.Common.{◌≡◌, ◌<◌, ◌∙◌, sym, refl, ap, List, length, arith, take}
+use Rattle.std.proofs.Common.{◌<◌, ◌∙◌, sym, refl, ap, List, length, arith, take}
 use Rattle.std.proofs.lemmas.List.Edits.{length-remove}
 use Rattle.lo_calls.specs.declared.descs.Descriptor.{Descriptor}
 use Rattle.lo_calls.specs.declared.descs.Descs.{Descs}

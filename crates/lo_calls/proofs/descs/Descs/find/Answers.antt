@@ -1,4 +1,4 @@
-use Rattle.std.proofs.Common.{◌≡◌, ◌<◌, pos, arith, length, get_or, w32, to_z, of_z}
+use Rattle.std.proofs.Common.{◌≡◌, ◌<◌, arith, length, get_or, w32, to_z, of_z}
 use Rattle.std.proofs.lemmas.Int.{ints}
 use Rattle.lo_calls.proofs.Entries.{finds_here}
 use Rattle.lo_calls.proofs.descs.Descs.find.Goals as goal

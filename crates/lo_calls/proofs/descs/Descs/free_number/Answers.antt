@@ -1,4 +1,4 @@
-use Rattle.std.proofs.Common.{◌≡◌, ◌<◌, ◌∙◌, sym, length, map, arith}
+use Rattle.std.proofs.Common.{◌<◌, ◌∙◌, sym, length, map, arith}
 use Rattle.lo_calls.specs.Descriptors.{described_by}
 use Rattle.lo_calls.proofs.Entries.{free_more, free_here, taken_described}
 use Rattle.lo_calls.proofs.descs.Descs.free_number.Goals as goal

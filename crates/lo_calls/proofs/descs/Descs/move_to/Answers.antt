@@ -1,5 +1,4 @@
-use Rattle.std.proofs.Common.{◌≡◌, ◌<◌, ◌≤◌, ◌∙◌, sym, ap, map, length, arith}
-use Rattle.lo_calls.specs.declared.descs.Descriptor.{Descriptor}
+use Rattle.std.proofs.Common.{◌<◌, ◌∙◌, ap, map, length, arith}
 use Rattle.lo_calls.specs.Descriptors.{described_by, holds_in, last_position}
 use Rattle.std.specs.Vec.{with_items}
 use Rattle.lo_calls.proofs.Entries.{entry_moved, moved_one, moved_other, moved_described, moved_hold, moved_position, same_holds, stay_open}

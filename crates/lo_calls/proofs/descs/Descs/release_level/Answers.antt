@@ -1,4 +1,4 @@
-use Rattle.std.proofs.Common.{◌≡◌, ◌<◌, ◌∙◌, ap, refl, map, length, arith}
+use Rattle.std.proofs.Common.{◌<◌, ◌∙◌, ap, refl, map, length, arith}
 use Rattle.lo_calls.specs.Descriptors.{described_by, holds_in}
 use Rattle.std.specs.Vec.{with_items}
 use Rattle.lo_calls.proofs.Entries.{entry_released, released_described, same_holds, stay_open}

@@ -1,4 +1,4 @@
-use Rattle.std.proofs.Common.{◌≡◌, ◌≤◌, ℤ, pos, arith, w32, w64, to_z, of_z}
+use Rattle.std.proofs.Common.{◌≡◌, pos, arith, w32, w64, to_z}
 use Rattle.std.proofs.lemmas.Int.{ints, to_z-of_z}
 use Rattle.lo_calls.specs.World.{world}
 use Rattle.lo_calls.proofs.Finding.{found_at, found_is, found_number, found_among}

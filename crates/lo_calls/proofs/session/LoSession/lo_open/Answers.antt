@@ -1,4 +1,4 @@
-use Rattle.std.proofs.Common.{◌≡◌, ◌<◌, ◌∙◌, ℤ, ap, refl, sym, subst, length, arith, pos, w32, w64, to_z, of_z, FitsSigned}
+use Rattle.std.proofs.Common.{◌≡◌, ◌<◌, ◌∙◌, ℤ, ap, refl, sym, subst, length, arith, pos, w32, w64, to_z, of_z}
 use Rattle.std.proofs.lemmas.Int.{ints, to_z-of_z}
 use Rattle.lo_base.specs.declared.refusal.Cause.TheVariants.{BadMode}
 use Rattle.lo_base.specs.declared.refusal.Denied.{Denied}

@@ -1,7 +1,5 @@
-use Rattle.std.proofs.Common.{◌≡◌, ◌≤◌, ◌<◌, ◌+◌, ℤ, length, arith, pos, w32, to_z, of_z, Fits}
-use Rattle.std.specs.Int.{FitsUnsignedBits}
-use Rattle.std.proofs.Math.IntN.{nat_abs}
-use Rattle.std.proofs.lemmas.Int.{ints, to_z-of_z}
+use Rattle.std.proofs.Common.{◌≤◌, ◌+◌, length, arith, w32}
+use Rattle.std.proofs.lemmas.Int.{to_z-of_z}
 use Rattle.lo_calls.specs.Descriptors.{last_position}
 use Rattle.lo_calls.specs.World.{world}
 use Rattle.lo_calls.proofs.Fetching.{counted, read_much, read_done}

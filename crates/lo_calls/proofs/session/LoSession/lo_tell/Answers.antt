@@ -1,10 +1,7 @@
-use Rattle.std.proofs.Common.{◌≤◌, ℤ, subst, sym, w32}
+use Rattle.std.proofs.Common.{ℤ, subst, sym, w32}
 use Rattle.std.proofs.lemmas.Int.{to_z-of_z}
-use Rattle.std.proofs.lemmas.List.Elements.{All-get_or}
 use Rattle.lo_base.specs.declared.reply.Reply.TheVariants.{Number}
-use Rattle.lo_calls.specs.declared.descs.Descriptor.{Descriptor}
 use Rattle.lo_calls.specs.DescriptorRows.{tell_row}
-use Rattle.lo_calls.specs.Descriptors.{last_position}
 use Rattle.lo_calls.specs.World.{world, Grants}
 use Rattle.lo_calls.proofs.Finding.{found_position}
 use Rattle.lo_calls.proofs.Telling.{told, tell_done}

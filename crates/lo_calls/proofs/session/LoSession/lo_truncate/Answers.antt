@@ -1,5 +1,5 @@
-use Rattle.std.proofs.Common.{◌≡◌, ℤ, ap, refl, sym, subst, arith, pos, w32, w64, to_z, of_z}
-use Rattle.std.proofs.lemmas.Int.{ints, to_z-of_z}
+use Rattle.std.proofs.Common.{ap, refl, w32, w64}
+use Rattle.std.proofs.lemmas.Int.{to_z-of_z}
 use Rattle.row_versions.specs.declared.base.Core.{Core}
 use Rattle.lo_calls.specs.World.{world}
 use Rattle.lo_calls.proofs.Finding.{found_at, found_is, found_writes}

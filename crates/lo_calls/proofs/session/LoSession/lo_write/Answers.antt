@@ -1,13 +1,9 @@
-use Rattle.std.proofs.Common.{◌≡◌, ◌≤◌, ◌<◌, ◌+◌, ℤ, ap, refl, sym, subst, length, arith, pos, w32, w64, to_z, of_z, Fits}
+use Rattle.std.proofs.Common.{◌≡◌, ◌≤◌, ◌+◌, ap, refl, length, arith, pos, w32, w64, to_z}
 use Rattle.std.proofs.lemmas.Int.{ints, to_z-of_z}
-use Rattle.std.proofs.lemmas.List.Elements.{All-get_or}
 use Rattle.row_versions.specs.declared.base.Core.{Core}
-use Rattle.xact_core.specs.Transactions.{Transactions}
-use Rattle.lo_calls.specs.declared.descs.Descriptor.{Descriptor}
-use Rattle.lo_calls.specs.Descriptors.{last_position}
-use Rattle.lo_calls.specs.World.{world, Keeps}
+use Rattle.lo_calls.specs.World.{world}
 use Rattle.lo_calls.proofs.Finding.{found_at, found_is, found_writes}
-use Rattle.lo_calls.proofs.Keeping.{keeps_same, moved_keeps, with_descs}
+use Rattle.lo_calls.proofs.Keeping.{keeps_same, moved_keeps}
 use Rattle.lo_calls.proofs.Refusing.{failed_with}
 use Rattle.lo_calls.proofs.Worlds.{store_keeps}
 use Rattle.lo_calls.proofs.Writing.{write_denied, write_done}
