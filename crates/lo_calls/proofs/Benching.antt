@@ -1,5 +1,5 @@
 -- What the bench of the tests keeps: two sessions that are ready, through the calls of one and through its transactions.
-use Rattle.std.proofs.Common.{◌≡◌, ◌≢◌, ◌≤◌, ◌<◌, ℕ, ◌+◌, List, [], ◌∷◌, ◌++◌, length, Option, None, refl, ap, sym, subst, ◌∙◌, arith, append_assoc, length-append}
+use Rattle.std.proofs.Common.{◌≡◌, ◌≢◌, ◌≤◌, ◌<◌, ℕ, List, [], ◌∷◌, ◌++◌, length, Option, None, sym, subst, ◌∙◌, arith, append_assoc, length-append}
 use Rattle.std.specs.Prelude.{IsPermutation, Result, Ok, IfOk}
 use Rattle.std.proofs.lemmas.List.Sorted.{IsPermutation-refl, IsPermutation-trans, IsPermutation-append, IsPermutation-append_comm}
 use Rattle.xact_core.specs.declared.snapshot.Snapshot.{Snapshot}
@@ -14,7 +14,7 @@ use Rattle.lo_calls.specs.declared.session.LoSession.{LoSession}
 use Rattle.lo_calls.specs.declared.store.LoStore.{LoStore}
 use Rattle.lo_calls.specs.Descriptors.{holds_of, AreHeld, AreOpen, Ends}
 use Rattle.lo_calls.specs.Pair.{HoldApart, AreReady}
-use Rattle.lo_calls.specs.World.{World, world, counter_end, IsReady, Keeps}
+use Rattle.lo_calls.specs.World.{world, counter_end, IsReady, Keeps}
 use Rattle.lo_calls.proofs.Keeping.{with_descs, ends_keeps}
 
 -- open descriptors, in other transactions that hold their views too

@@ -1,8 +1,8 @@
 -- Who is busy with one edit, or with a creation and a write of the same object.
-use Rattle.std.proofs.Common.{◌≡◌, ◌⊎◌, inl, inr, ℕ, Bool, true, false, min, List, [], ◌∷◌, ◌++◌, length, Option, Some, None, refl, ap, sym, ◌∙◌, arith}
+use Rattle.std.proofs.Common.{◌≡◌, ◌⊎◌, inl, inr, ℕ, Bool, true, false, min, List, [], ◌∷◌, Option, Some, None, refl, ap, sym, ◌∙◌, arith}
 use Rattle.std.proofs.lemmas.Bool.Decides.{nat_tests}
 use Rattle.lo_model.specs.Edit.{Deed, Create, Write, Edit}
-use Rattle.lo_model.specs.Touch.{Touched, Nothing, Pages, PagesFrom, WholeObject, RowOf, RowsOf, touched, meets, lower_of, holder_of, busy_with, busy_with_any}
+use Rattle.lo_model.specs.Touch.{Touched, Nothing, Pages, PagesFrom, WholeObject, RowOf, RowsOf, touched, meets, lower_of, holder_of, busy_with}
 use Rattle.lo_pages.specs.Outcome.{held_by}
 use Rattle.lo_calls.specs.ObjectRows.{number_or_0, writes}
 use Rattle.lo_calls.specs.Row.{Here}

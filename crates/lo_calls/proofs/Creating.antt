@@ -1,14 +1,12 @@
 -- lo_from_bytea: a creation, and then a write of the object that was made.
-use Rattle.std.proofs.Common.{◌≡◌, ◌≤◌, ℕ, ◌+◌, pos, Bool, true, false, List, [], ◌∷◌, ◌++◌, length, Option, Some, None, refl, ap, sym, subst, ◌∙◌, append_assoc, arith}
+use Rattle.std.proofs.Common.{◌≡◌, ℕ, ◌+◌, pos, Bool, true, false, List, [], ◌∷◌, ◌++◌, Option, Some, None, refl, ap, sym, subst, ◌∙◌, append_assoc, arith}
 use Rattle.std.specs.Prelude.{◌==◌, if◌then◌else◌}
 use Rattle.std.proofs.lemmas.Bool.{false≢true}
 use Rattle.std.proofs.lemmas.Bool.Decides.{nat_tests}
 use Rattle.lo_base.specs.declared.refusal.Denied.{Denied}
 use Rattle.lo_base.specs.declared.refusal.Denied.TheVariants.{By, NoMemory}
-use Rattle.lo_base.specs.declared.refusal.Refusal.{Refusal}
 use Rattle.lo_base.specs.declared.reply.Reply.TheVariants.{Number}
 use Rattle.lo_model.specs.Edit.{Deed, Create, Edit}
-use Rattle.lo_model.specs.Numbering.{picked_oid}
 use Rattle.xact_core.specs.Transactions.{Transactions}
 use Rattle.row_versions.specs.Stands.{made_now}
 use Rattle.lo_pages.specs.declared.pages.Pages.{Pages}
@@ -16,7 +14,7 @@ use Rattle.lo_pages.specs.Outcome.{first_of, create_refused, write_refused, writ
 use Rattle.lo_pages.specs.Outcome as pages
 use Rattle.lo_pages.specs.Standing.{StandFor}
 use Rattle.lo_pages.proofs.Steps.{left_more}
-use Rattle.lo_calls.specs.Numbers.{IsNumber, number_in}
+use Rattle.lo_calls.specs.Numbers.{IsNumber}
 use Rattle.lo_calls.specs.ObjectRows.{number_or_0, number_for, no_number, counter_after, writes, creation, picked, create_row}
 use Rattle.lo_calls.specs.Row.{Here}
 use Rattle.lo_calls.specs.Terms.{no_oids, object_exists, busy_for}

@@ -1,6 +1,5 @@
 -- lo_get, at each of its exits.
-use Rattle.std.proofs.Common.{◌≡◌, ◌≤◌, ℕ, ℤ, ◌+◌, ◌<◌, pos, negsuc, Bool, true, false, List, [], ◌∷◌, length, take, drop, Option, Some, None, refl, ap, sym, subst, ◌∙◌, arith, length-drop, append-nil}
-use Rattle.std.specs.Prelude.{Result, IfOk, IfErr, IsErrAnd}
+use Rattle.std.proofs.Common.{◌≡◌, ◌≤◌, ℕ, ℤ, pos, Bool, true, false, List, length, drop, Option, None, refl, ap, sym, subst, ◌∙◌, arith, length-drop, append-nil}
 use Rattle.std.proofs.lemmas.List.{take_all}
 use Rattle.lo_base.specs.declared.refusal.Cause.TheVariants.{NoObject}
 use Rattle.lo_base.specs.declared.refusal.Denied.{Denied}
@@ -11,15 +10,14 @@ use Rattle.lo_model.specs.Edit.{Deed, Edit}
 use Rattle.lo_model.specs.Listing.{has_object}
 use Rattle.xact_core.specs.declared.snapshot.Snapshot.{Snapshot}
 use Rattle.xact_core.specs.Kept.{current}
-use Rattle.lo_pages.specs.Outcome.{first_of}
 use Rattle.lo_pages.specs.Standing.{StandFor, ReadsAs}
 use Rattle.lo_pages.proofs.Filling.{end_is}
 use Rattle.lo_pages.proofs.Steps.{left_none}
 use Rattle.lo_calls.specs.Arguments.{IsOffset, IsNoOffset, IsLimit, IsNoLimit}
-use Rattle.lo_calls.specs.ObjectRows.{get_row, bytes_of, bytes_got, bad_limit, limited}
-use Rattle.lo_calls.specs.Reading.{part_read, ReadsPart, DeniesPart, RefusesPart}
-use Rattle.lo_calls.specs.Row.{Here, Row, view_of}
-use Rattle.lo_calls.specs.Terms.{no_object, bad_offset, too_much, count_of}
+use Rattle.lo_calls.specs.ObjectRows.{get_row, bytes_of, bytes_got, limited}
+use Rattle.lo_calls.specs.Reading.{part_read, ReadsPart, DeniesPart}
+use Rattle.lo_calls.specs.Row.{view_of}
+use Rattle.lo_calls.specs.Terms.{no_object, too_much, count_of}
 use Rattle.lo_calls.specs.World.{World, here_of, IsReady, Grants, Refuses, Denies}
 use Rattle.lo_calls.proofs.Refusing.{skip, stop, few_enough}
 use Rattle.lo_calls.proofs.Seeing.{reads, missing, present}

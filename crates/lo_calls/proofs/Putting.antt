@@ -1,7 +1,6 @@
 -- lo_put, at each of its exits.
-use Rattle.std.proofs.Common.{◌≡◌, ℕ, ℤ, pos, Bool, true, false, List, [], ◌∷◌, length, Option, Some, None, refl, ap, sym, subst, ◌∙◌}
-use Rattle.std.specs.Prelude.{nat_lt}
-use Rattle.lo_base.specs.declared.refusal.Cause.TheVariants.{NoObject, BadWrite}
+use Rattle.std.proofs.Common.{◌≡◌, ℕ, ℤ, pos, Bool, true, false, List, [], ◌∷◌, length, refl, ap, ◌∙◌}
+use Rattle.lo_base.specs.declared.refusal.Cause.TheVariants.{NoObject}
 use Rattle.lo_base.specs.declared.refusal.Denied.{Denied}
 use Rattle.lo_base.specs.declared.refusal.Refusal.{Refusal}
 use Rattle.lo_base.specs.declared.reply.Reply.TheVariants.{Word}
@@ -12,16 +11,16 @@ use Rattle.xact_core.specs.declared.snapshot.Snapshot.{Snapshot}
 use Rattle.xact_core.specs.Kept.{current}
 use Rattle.lo_pages.specs.Outcome.{first_of, largest_size, held_by, write_refused, write_made, Adds}
 use Rattle.lo_pages.specs.Outcome as pages
-use Rattle.lo_pages.specs.Standing.{StandFor, ReadsAs}
+use Rattle.lo_pages.specs.Standing.{ReadsAs}
 use Rattle.lo_calls.specs.Arguments.{IsOffset, IsNoOffset}
 use Rattle.lo_calls.specs.ObjectRows.{writes, put_row}
 use Rattle.lo_calls.specs.Row.{Here}
-use Rattle.lo_calls.specs.Terms.{when, no_object, bad_offset, bad_write, busy_for, count_of}
+use Rattle.lo_calls.specs.Terms.{no_object, bad_offset, bad_write, busy_for, count_of}
 use Rattle.lo_calls.specs.World.{World, here_of, IsReady, Grants, Refuses, Denies}
 use Rattle.lo_calls.proofs.Busy.{busy_writing}
 use Rattle.lo_calls.proofs.Refusing.{skip, stop, skip_second}
 use Rattle.lo_calls.proofs.Seeing.{missing, present}
-use Rattle.lo_calls.proofs.Worlds.{made_of, IsRowOf, pages_deny, pages_grant}
+use Rattle.lo_calls.proofs.Worlds.{made_of, pages_deny, pages_grant}
 
 pub written : (w : World) (o at : ℕ) (bytes : List ℕ) → made_of w (writes o at bytes) ≡ write_made w.xacts w.session.s o at bytes
 written w o at [] = refl

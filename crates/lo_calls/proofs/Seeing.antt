@@ -1,5 +1,5 @@
 -- What a session's current view has, told by what the pages answer in it.
-use Rattle.std.proofs.Common.{◌≡◌, ℕ, ◌+◌, ◌<◌, pos, Bool, true, false, List, length, Option, Some, None, refl, ap, sym, subst, ◌∙◌}
+use Rattle.std.proofs.Common.{◌≡◌, ℕ, pos, Bool, true, false, List, Some, None, ap, sym, subst, ◌∙◌}
 use Rattle.std.specs.Prelude.{not}
 use Rattle.lo_base.specs.declared.refusal.Cause.TheVariants.{NoObject}
 use Rattle.lo_model.specs.Edit.{Deed, Edit}

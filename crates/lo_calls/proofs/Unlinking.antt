@@ -1,5 +1,5 @@
 -- lo_unlink: the pages take the object away, and then the session's descriptors on it end.
-use Rattle.std.proofs.Common.{◌≡◌, ℕ, pos, List, [], ◌∷◌, ◌++◌, length, map, Option, Some, None, refl, ap, sym, subst, ◌∙◌}
+use Rattle.std.proofs.Common.{◌≡◌, ℕ, pos, List, [], ◌∷◌, ◌++◌, map, refl, ap, sym, subst, ◌∙◌}
 use Rattle.lo_base.specs.declared.reply.Reply.TheVariants.{Number}
 use Rattle.lo_model.specs.Edit.{Deed, Unlink, Edit}
 use Rattle.xact_core.specs.Transactions.{Transactions}

@@ -1,5 +1,5 @@
 -- What a call leaves of its world, where the store alone changes.
-use Rattle.std.proofs.Common.{◌≡◌, ◌≤◌, ℕ, ◌+◌, List, [], ◌∷◌, ◌++◌, length, Option, Some, None, refl, ap, sym, subst, ◌∙◌, arith}
+use Rattle.std.proofs.Common.{◌≡◌, ◌≤◌, ℕ, List, ◌++◌, length, Option, refl, ap, sym, subst, ◌∙◌, arith}
 use Rattle.lo_base.specs.declared.refusal.Denied.{Denied}
 use Rattle.lo_base.specs.declared.refusal.Denied.TheVariants.{By, NoMemory}
 use Rattle.lo_base.specs.declared.refusal.Refusal.{Refusal}
@@ -12,10 +12,9 @@ use Rattle.lo_pages.specs.Outcome.{first_of, Adds, LeavesOwn}
 use Rattle.lo_pages.specs.Outcome as pages
 use Rattle.lo_pages.specs.Standing.{GoWith, StandFor}
 use Rattle.lo_calls.specs.declared.session.LoSession.{LoSession}
-use Rattle.lo_calls.specs.declared.store.LoStore.{LoStore}
 use Rattle.lo_calls.specs.Descriptors.{descriptors_of, holds_of}
 use Rattle.lo_calls.specs.Row.{Here, Granted, Row}
-use Rattle.lo_calls.specs.World.{World, world, here_of, counter_end, IsReady, IsGranted, Grants, Refuses, IsSameSession, FindsNoMemory, Denies, Keeps}
+use Rattle.lo_calls.specs.World.{World, world, here_of, counter_end, IsReady, IsGranted, Grants, IsSameSession, FindsNoMemory, Denies, Keeps}
 use Rattle.lo_calls.proofs.Closing.{holds_same}
 
 same_session : (old new : LoSession) → new ≡ old → IsSameSession old new

@@ -1,5 +1,5 @@
 -- The number for a new object, whatever edits the pages stand for.
-use Rattle.std.specs.Prelude.{◌≡◌, ℕ, ℤ, pos, ◌+◌, ◌==◌, List, Option, Some, None, if◌then◌else◌}
+use Rattle.std.specs.Prelude.{◌≡◌, ℕ, pos, ◌+◌, ◌==◌, List, Option, Some, None, if◌then◌else◌}
 use Rattle.lo_base.specs.declared.refusal.Cause.TheVariants.{NoOids}
 use Rattle.lo_base.specs.declared.refusal.Refusal.{Refusal}
 use Rattle.lo_model.specs.Edit.{Deed, Edit}

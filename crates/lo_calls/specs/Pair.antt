@@ -1,5 +1,5 @@
 -- Two sessions at once, as the tests have them: each is ready, and no view is held for both.
-use Rattle.std.specs.Prelude.{◌≡◌, ◌≢◌, ℕ, List, ◌++◌, IsPermutation}
+use Rattle.std.specs.Prelude.{◌≢◌, List, ◌++◌, IsPermutation}
 use Rattle.xact_core.specs.declared.snapshot.Snapshot.{Snapshot}
 use Rattle.xact_core.specs.Transactions.{Transactions}
 use Rattle.lo_calls.specs.declared.descs.Descs.{Descs}

@@ -1,4 +1,4 @@
-use Rattle.std.proofs.Common.{◌+◌, refl, ap, arith, rules}
+use Rattle.std.proofs.Common.{◌+◌, refl, ap, rules}
 use Rattle.row_versions.specs.declared.Core.{Core}
 use Rattle.lo_calls.specs.World.{world}
 use Rattle.lo_calls.proofs.Keeping.{keeps_same}
