@@ -1,4 +1,4 @@
-use Rattle.std.proofs.Common.{◌≡◌, ℕ, ap, sym, ◌∙◌, arith}
+use Rattle.std.proofs.Common.{◌≡◌, ap, arith}
 use Rattle.xact_core.specs.Transactions.{Transactions, beginning}
 use Rattle.row_versions.proofs.Benching.{said_ok}
 use Rattle.lo_pages.specs.declared.pages.Pages.{Pages}
