@@ -1,4 +1,5 @@
 pub mod Adding
+pub mod Alone
 pub mod Beginning
 pub mod Blocks
 pub mod Bytes

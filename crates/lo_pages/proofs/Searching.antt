@@ -305,7 +305,7 @@ spans_write {P} stores o at bytes some = by_count (length bytes) some
 
 -- Where nobody is found, each key of the searches is free, as a put there needs.
 
-lower_none : (o p : Option ℕ) → lower_of o p ≡ None → (o ≡ None) × (p ≡ None)
+pub lower_none : (o p : Option ℕ) → lower_of o p ≡ None → (o ≡ None) × (p ≡ None)
 lower_none None p is = (refl, is)
 lower_none (Some a) None is = absurd (grind arith)
 lower_none (Some a) (Some b) is = absurd (grind arith)

@@ -88,6 +88,11 @@ abbrev pub Denies : Transactions → (session : ℕ) → (List (Edit Deed) → O
 Denies x s refused old new (By r) = Refuses x refused old new r
 Denies x s refused old new NoMemory = LeavesOwn x s old new
 
+-- a call did nothing for want of memory, and was not refused
+abbrev pub IsNoMemory : Denied → Type 0
+IsNoMemory (By r) = ⊥
+IsNoMemory NoMemory = Unit {0}
+
 -- the bytes of an object from an offset on, as many as there are and as fit
 abbrev pub piece_at : (at room : ℕ) → List ℕ → List ℕ
 piece_at at room bytes = take room (drop at bytes)

@@ -9,8 +9,8 @@ use Rattle.lo_pages.specs.declared.pages.Pages.{Pages}
 use Rattle.lo_pages.specs.Calls.{own, search, PutsOne, Next, WrittenTo, ErasedTo}
 use Rattle.lo_pages.specs.Content.{Content, bytes_of, piece_of, is_written}
 use Rattle.lo_pages.specs.Outcome.{LeavesOwn}
-use Rattle.lo_pages.specs.Standing.{GoWith, page_value, stores_of}
-use Rattle.lo_pages.specs.Stores.{there, no_value, page_at}
+use Rattle.lo_pages.specs.Standing.{GoWith, last_number, page_value, stores_of}
+use Rattle.lo_pages.specs.Stores.{there, no_value, head_at, page_at}
 
 -- what a session finds of a page now
 abbrev pub found_now : Transactions → (session : ℕ) → Pages → (oid number : ℕ) → Option Content
@@ -80,6 +80,13 @@ pub record FreeSpan (x : Transactions) (s o first last : ℕ) (store : Pages) : 
   pub object : lowest_other s (standing x ((stores_of store).objects o)) ≡ None
   pub pages : FreePages x s o first last store
   pub cuts : (b : ℕ) → b ≤ last → lowest_other s (standing x ((stores_of store).cuts o b)) ≡ None
+
+-- A session has an object to itself: it is there for it, and no other session holds anything of it.
+pub record HasAlone (x : Transactions) (s o : ℕ) (store : Pages) : Type 0 where
+  pub there : head_at x (own x s) (stores_of store) o ≡ true
+  pub object : lowest_other s (standing x ((stores_of store).objects o)) ≡ None
+  pub pages : (b : ℕ) → b ≤ last_number → lowest_other s (standing x ((stores_of store).pages o b)) ≡ None
+  pub cuts : (b : ℕ) → b ≤ last_number → lowest_other s (standing x ((stores_of store).cuts o b)) ≡ None
 
 -- Pages of an object are written, or erased where they are found, as far as one.
 pub record Writing (x : Transactions) (s o at : ℕ) (bytes : List ℕ) (i : ℕ) (old new : Pages) : Type 0 where

@@ -8,9 +8,9 @@ ghost use Rattle.xact_core.specs.Transactions.{levels_of};
 ghost use Rattle.row_versions.specs.Stands.{standing, made_now, lowest_other};
 ghost use Rattle.lo_pages.specs.Calls.{own};
 ghost use Rattle.lo_pages.specs.Content.{is_written, piece_of};
-ghost use Rattle.lo_pages.specs.Outcome.{create_refused, write_refused, cut_refused, drop_refused, write_made, Adds, Denies, LeavesOwn};
+ghost use Rattle.lo_pages.specs.Outcome.{create_refused, write_refused, cut_refused, drop_refused, write_made, Adds, Denies, IsNoMemory, LeavesOwn};
 ghost use Rattle.lo_pages.specs.Standing.{GoWith, last_number, stores_of};
-ghost use Rattle.lo_pages.specs.Steps.{FreeSpan, HeldFor, found_now, made_page, page_written, page_sized, FreePages, PutsObject, PutsPage, PutsCut, WritesPages, ErasesFrom};
+ghost use Rattle.lo_pages.specs.Steps.{FreeSpan, HasAlone, HeldFor, found_now, made_page, page_written, page_sized, FreePages, PutsObject, PutsPage, PutsCut, WritesPages, ErasesFrom};
 ghost use Rattle.lo_pages.specs.Stores.{head_at};
 
 use crate::page_key::PageKey;
@@ -30,6 +30,7 @@ impl Pages {
             (made_now core.old.xacts s (Create oid) ∷ []) self.old self.new) }
         ensures err { IfErr result (Denies core.old.xacts s
             (create_refused core.old.xacts s oid) self.old self.new) }
+        ensures alone { OnOk result (HasAlone core.old.xacts s oid self.new) }
         ensures left { LeavesOwn core.old.xacts s self.old self.new }
         ensures goes { GoWith core.old.xacts self.new }
         ensures core { core.new ≡ core.old }
@@ -63,6 +64,10 @@ impl Pages {
             (write_made core.old.xacts s oid at bytes.now) self.old self.new) }
         ensures err { IfErr result (Denies core.old.xacts s
             (write_refused core.old.xacts s oid at bytes.now) self.old self.new) }
+        ensures small { OnOk result (at + length bytes.now ≤ LARGEST_SIZE) }
+        // Of an object that the session has to itself no small write is refused.
+        ensures alone { HasAlone core.old.xacts s oid self.old →
+            at + length bytes.now ≤ LARGEST_SIZE → IfErr result IsNoMemory }
         ensures left { LeavesOwn core.old.xacts s self.old self.new }
         ensures goes { GoWith core.old.xacts self.new }
         ensures core { core.new ≡ core.old }

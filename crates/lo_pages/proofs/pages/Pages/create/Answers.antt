@@ -2,6 +2,7 @@ use Rattle.std.proofs.Common.{sym, subst, ◌∙◌}
 use Rattle.lo_base.specs.declared.refusal.Denied.{Denied}
 use Rattle.lo_pages.specs.Outcome.{create_refused, Denies}
 use Rattle.lo_pages.proofs.Adding.{create_exists, create_busy, create_done}
+use Rattle.lo_pages.proofs.Alone.{alone_now}
 use Rattle.lo_pages.proofs.Steps.{left_none}
 use Rattle.lo_pages.proofs.pages.Pages.create.Goals as goal
 
@@ -19,3 +20,6 @@ returns-then-is_there-clause-left c = left_none c.args.core.now.xacts c.args.s c
 
 pub returns-in-Err-clause-left : goal.returns-in-Err-clause-left
 returns-in-Err-clause-left c = left_none c.args.core.now.xacts c.args.s c.args.self.now
+
+pub returns-clause-alone : goal.returns-clause-alone
+returns-clause-alone c = alone_now c.args.core.now.xacts c.args.s c.args.oid c.args.self.now c.put_object.new.self c.in_ok-put_object.ensures.ok c.in_default.ensures.ok

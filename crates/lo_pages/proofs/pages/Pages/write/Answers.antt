@@ -1,9 +1,10 @@
-use Rattle.std.proofs.Common.{◌≡◌, ◌+◌, true, length, sym, subst, ◌∙◌, arith}
+use Rattle.std.proofs.Common.{◌≡◌, ◌+◌, ◌-◌, ◌/◌, true, length, sym, subst, ◌∙◌, arith}
 use Rattle.std.specs.Prelude.{nat_lt}
 use Rattle.lo_base.specs.declared.refusal.Denied.{Denied}
 use Rattle.lo_pages.specs.Outcome.{write_refused, Denies, largest_size}
 use Rattle.lo_pages.proofs.Adding.{is_large, is_small, write_missing, write_large, write_busy, write_none, write_done}
 use Rattle.lo_pages.proofs.pages.Pages.write.Goals.{then-at-gt-LARGEST_SIZE-via-then-at-gt-LARGEST_SIZE, then-at-gt-LARGEST_SIZE-via-else-at-gt-LARGEST_SIZE+then-count-at}
+use Rattle.lo_pages.proofs.Alone.{not_held}
 use Rattle.lo_pages.proofs.Steps.{left_none}
 use Rattle.lo_pages.proofs.pages.Pages.write.Goals as goal
 
@@ -38,3 +39,6 @@ returns-then-count-eq0-clause-left c = left_none c.args.core.now.xacts c.args.s 
 
 pub returns-in-Err-clause-left : goal.returns-in-Err-clause-left
 returns-in-Err-clause-left c = left_none c.args.core.now.xacts c.args.s c.args.self.now
+
+pub returns-in-Err-clause-alone : goal.returns-in-Err-clause-alone
+returns-in-Err-clause-alone c = λ alone small. not_held c.args.core.now.xacts c.args.s c.args.oid c.args.self.now alone (c.args.at / 2048) ((c.args.at + length c.args.bytes.now - 1) / 2048) c.in-Err.held (omega (arith, c.if-count-eq0.false)) (omega (arith, small)) c.in-Err.ensures.err

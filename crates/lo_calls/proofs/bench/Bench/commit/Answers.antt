@@ -1,0 +1,13 @@
+use Rattle.lo_pages.proofs.Standing.{go_committed}
+use Rattle.row_versions.proofs.Benching.{said_ok}
+use Rattle.lo_calls.proofs.Benching.{again}
+use Rattle.lo_calls.proofs.bench.Bench.commit.Goals as goal
+
+pub returns : goal.returns
+returns g c =
+    let one = c.args.self.now.session in
+    record {
+      ready = again c.args.self.now.core.xacts c.end_all.new.xacts c.commit.new.self c.begin.new.self c.args.self.now.store one c.args.self.now.other c.end_all.new.self c.requires.ready c.end_all.ensures.ends c.commit.ensures.ends.levels c.commit.ensures.ends.held
+          (λ left. go_committed one.s c.end_all.new.xacts c.commit.new.self c.args.self.now.store.pages (record { some = left.transaction; whole = left.whole; ends = c.commit.ensures.ends }) left.goes)
+          (said_ok c.begin.result c.expect.result c.expect.ensures c.begin.ensures.ok);
+    }

@@ -1,0 +1,11 @@
+pub mod Access
+pub mod Arguments
+pub mod Descriptors
+pub mod DescriptorRows
+pub mod Numbers
+pub mod ObjectRows
+pub mod Pair
+pub mod Reading
+pub mod Row
+pub mod Terms
+pub mod World
