@@ -18,8 +18,3 @@ pub record AreReady (x : Transactions) (store : LoStore) (one two : LoSession) :
   pub second : IsReady (world x store two)
   pub numbers : one.s ≢ two.s
   pub apart : HoldApart x one.descs two.descs
-
--- An act of one of two sessions leaves both ready, and undid one level at most.
-pub record LeavesReady (x x' : Transactions) (store : LoStore) (one two : LoSession) : Type 0 where
-  pub ready : AreReady x' store one two
-  pub undos : x'.undos ≤ x.undos + 1

@@ -5,7 +5,7 @@ use Rattle.lo_pages.specs.declared.pages.Pages.{Pages}
 use Rattle.lo_pages.specs.Standing.{GoWith}
 use Rattle.lo_calls.specs.declared.store.LoStore.{LoStore}
 use Rattle.lo_calls.proofs.Benching.{said, both_begun}
-use Rattle.lo_calls.proofs.bench.Bench.new.Goals as goal
+use Rattle.lo_calls.proofs.object_tests.Bench.new.Goals as goal
 
 pub returns : goal.returns
 returns g c =

@@ -1,7 +1,7 @@
 use Rattle.lo_pages.proofs.Standing.{go_aborted}
 use Rattle.row_versions.proofs.Benching.{said_ok}
 use Rattle.lo_calls.proofs.Benching.{again}
-use Rattle.lo_calls.proofs.bench.Bench.rollback.Goals as goal
+use Rattle.lo_calls.proofs.object_tests.Bench.rollback.Goals as goal
 
 pub returns : goal.returns
 returns g c =
