@@ -1,5 +1,5 @@
 -- What the bench of the tests keeps: two sessions that are ready, through the calls of one and through its transactions.
-use Rattle.std.proofs.Common.{◌≡◌, ◌≢◌, ◌≤◌, ◌<◌, ℕ, List, [], ◌∷◌, ◌++◌, length, Option, None, sym, subst, ◌∙◌, arith, append_assoc, length-append}
+use Rattle.std.proofs.Common.{◌≡◌, ◌≢◌, ◌≤◌, ◌<◌, ℕ, ◌+◌, List, [], ◌∷◌, ◌++◌, length, Option, None, refl, ap, sym, subst, ◌∙◌, arith, take, append_assoc, length-append, length-take}
 use Rattle.std.specs.Prelude.{IsPermutation, Result, Ok, IfOk}
 use Rattle.std.proofs.lemmas.List.Sorted.{IsPermutation-refl, IsPermutation-trans, IsPermutation-append, IsPermutation-append_comm}
 use Rattle.xact_core.specs.declared.snapshot.Snapshot.{Snapshot}
@@ -8,14 +8,14 @@ use Rattle.xact_core.specs.Kept.{HoldsWholeViews}
 use Rattle.xact_core.specs.Transactions.{Transactions, HasLevels, levels_of}
 use Rattle.row_versions.proofs.Benching.{whole_same, whole_none}
 use Rattle.lo_pages.specs.Standing.{GoWith}
-use Rattle.lo_pages.proofs.Standing.{go_opened}
+use Rattle.lo_pages.proofs.Standing.{go_opened, go_ticked}
 use Rattle.lo_calls.specs.declared.descs.Descs.{Descs}
 use Rattle.lo_calls.specs.declared.session.LoSession.{LoSession}
 use Rattle.lo_calls.specs.declared.store.LoStore.{LoStore}
 use Rattle.lo_calls.specs.Descriptors.{holds_of, AreHeld, AreOpen, Ends}
-use Rattle.lo_calls.specs.Pair.{HoldApart, AreReady}
+use Rattle.lo_calls.specs.Pair.{HoldApart, AreReady, LeavesReady}
 use Rattle.lo_calls.specs.World.{world, counter_end, IsReady, Keeps}
-use Rattle.lo_calls.proofs.Keeping.{with_descs, ends_keeps}
+use Rattle.lo_calls.proofs.Keeping.{with_descs, ends_keeps, moved_keeps}
 
 -- open descriptors, in other transactions that hold their views too
 
@@ -109,3 +109,84 @@ both_begun x x1 x2 store one two none goes counter apart open_one open_two first
   where
     whole : HoldsWholeViews x
     whole = whole_none x none
+
+-- what an act leaves
+
+pub kept_leaves : (x x' : Transactions) (store store' : LoStore) (one one' two : LoSession) → AreReady x store one two → Keeps (world x store one) (world x' store' one') → LeavesReady x x' store' one' two
+kept_leaves x x' store store' one one' two ready keeps = record {
+  ready = kept_ready x x' store store' one one' two ready keeps;
+  undos = let same = ap (λ (u : Transactions). u.undos) keeps.others.rest in omega (arith, same);
+}
+
+pub nothing_leaves : (x : Transactions) (store : LoStore) (one two : LoSession) → AreReady x store one two → LeavesReady x x store one two
+nothing_leaves x store one two ready = record { ready = ready; undos = omega arith }
+
+pub swapped_leaves : (x : Transactions) (store : LoStore) (one two : LoSession) → AreReady x store one two → LeavesReady x x store two one
+swapped_leaves x store one two ready = record { ready = swapped x store one two ready; undos = omega arith }
+
+-- a clock that moves on
+pub ticked_leaves : (x x' : Transactions) (store : LoStore) (one two : LoSession) → AreReady x store one two → x' ≡ record x { clock = x.clock + 1 } → LeavesReady x x' store one two
+ticked_leaves x x' store one two ready is = subst (λ (u : Transactions). LeavesReady x u store one two) (sym is) (record {
+  ready = record {
+    first = beside x later store one refl refl go ready.first;
+    second = beside x later store two refl refl go ready.second;
+    numbers = ready.numbers;
+    apart = record { rest = ready.apart.rest; all = ready.apart.all };
+  };
+  undos = omega arith;
+})
+  where
+    later : Transactions
+    later = record x { clock = x.clock + 1 }
+
+    go : GoWith x store.pages → GoWith later store.pages
+    go = go_ticked x later store.pages (record { is = refl })
+
+-- a level that begins, and levels that end
+pub opened_leaves : (x x' : Transactions) (store : LoStore) (one two : LoSession) (name : Option (List ℕ)) → AreReady x store one two → Opens one.s name x x' → LeavesReady x x' store one two
+opened_leaves x x' store one two name ready by = record {
+  ready = record {
+    first = record {
+      transaction = subst (λ (names : List (Option (List ℕ))). 0 < length names) (sym by.levels.own) (omega (arith, length-append (levels_of x one.s) (name ∷ [])));
+      whole = whole_same x x' by.held ready.first.whole;
+      goes = go_opened one.s name x x' store.pages by ready.first.goes;
+      descriptors = open_same x x' one.s one.descs by.held ready.first.descriptors;
+      counter = ready.first.counter;
+    };
+    second = beside x x' store two (by.levels.others two.s (λ same. ready.numbers (sym same))) by.held (go_opened one.s name x x' store.pages by) ready.second;
+    numbers = ready.numbers;
+    apart = record { rest = ready.apart.rest; all = subst (λ (views : List Snapshot). IsPermutation views (holds_of one.descs ++ (holds_of two.descs ++ ready.apart.rest))) (sym by.held) ready.apart.all };
+  };
+  undos = omega (arith, by.undos);
+}
+
+pub levels_leave : (x x1 x2 : Transactions) (store : LoStore) (one two : LoSession) (descs : Descs) (names : List (Option (List ℕ))) → AreReady x1 store (with_descs one descs) two → x1.undos ≡ x.undos → HasLevels one.s names x1 x2 → 0 < length names → x2.held ≡ x1.held → x2.undos ≤ x1.undos + 1 → GoWith x2 store.pages → LeavesReady x x2 store (with_descs one descs) two
+levels_leave x x1 x2 store one two descs names ready before levels some held undos goes = record {
+  ready = record {
+    first = record {
+      transaction = subst (λ (left : List (Option (List ℕ))). 0 < length left) (sym levels.own) some;
+      whole = whole_same x1 x2 held ready.first.whole;
+      goes = goes;
+      descriptors = open_same x1 x2 one.s descs held ready.first.descriptors;
+      counter = ready.first.counter;
+    };
+    second = beside x1 x2 store two (levels.others two.s (λ same. ready.numbers (sym same))) held (λ go. goes) ready.second;
+    numbers = ready.numbers;
+    apart = record { rest = ready.apart.rest; all = subst (λ (views : List Snapshot). IsPermutation views (holds_of descs ++ (holds_of two.descs ++ ready.apart.rest))) (sym held) ready.apart.all };
+  };
+  undos = omega (arith, before, undos);
+}
+
+-- some descriptors of the one ended
+pub ended_ready : (x x1 : Transactions) (store : LoStore) (one two : LoSession) (descs : Descs) → AreReady x store one two → Ends x x1 one.descs descs → AreReady x1 store (with_descs one descs) two
+ended_ready x x1 store one two descs ready ends = kept_ready x x1 store store one (with_descs one descs) two ready (ends_keeps (world x store one) x1 descs ready.first ends)
+
+-- the descriptors of the one moved to other levels
+pub moved_ready : (x x1 : Transactions) (store : LoStore) (one two : LoSession) (descs : Descs) → AreReady x store one two → x1 ≡ x → holds_of descs ≡ holds_of one.descs → (AreOpen x one.s one.descs → AreOpen x1 one.s descs) → AreReady x1 store (with_descs one descs) two
+moved_ready x x1 store one two descs ready same holds stay =
+    let open' : AreOpen x one.s descs = subst (λ (u : Transactions). AreOpen u one.s descs) same (stay ready.first.descriptors) in
+    subst (λ (u : Transactions). AreReady u store (with_descs one descs) two) (sym same) (kept_ready x x store store one (with_descs one descs) two ready (moved_keeps (world x store one) store descs ready.first ready.first.goes ready.first.counter holds open'))
+
+-- a level is one of those that are left, where it is below the end of them
+pub some_left : (level : ℕ) (names : List (Option (List ℕ))) → 1 ≤ level → level ≤ length names → 0 < length (take level names)
+some_left level names low high = omega (arith, length-take level names)

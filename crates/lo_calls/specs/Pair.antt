@@ -1,5 +1,5 @@
 -- Two sessions at once, as the tests have them: each is ready, and no view is held for both.
-use Rattle.std.specs.Prelude.{◌≢◌, List, ◌++◌, IsPermutation}
+use Rattle.std.specs.Prelude.{◌≡◌, ◌≢◌, ◌≤◌, ℕ, ◌+◌, List, ◌++◌, IsPermutation}
 use Rattle.xact_core.specs.declared.snapshot.Snapshot.{Snapshot}
 use Rattle.xact_core.specs.Transactions.{Transactions}
 use Rattle.lo_calls.specs.declared.descs.Descs.{Descs}
@@ -18,3 +18,8 @@ pub record AreReady (x : Transactions) (store : LoStore) (one two : LoSession) :
   pub second : IsReady (world x store two)
   pub numbers : one.s ≢ two.s
   pub apart : HoldApart x one.descs two.descs
+
+-- An act of one of two sessions leaves both ready, and undid one level at most.
+pub record LeavesReady (x x' : Transactions) (store : LoStore) (one two : LoSession) : Type 0 where
+  pub ready : AreReady x' store one two
+  pub undos : x'.undos ≤ x.undos + 1

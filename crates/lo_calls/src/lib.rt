@@ -13,4 +13,8 @@ pub use session::LoSession;
 pub use store::LoStore;
 
 #[cfg(test)]
+mod bench;
+#[cfg(test)]
 mod object_tests;
+#[cfg(test)]
+mod tests;

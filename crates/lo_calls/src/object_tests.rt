@@ -1,28 +1,11 @@
-// Tests of the calls that name an object, over real transactions. A bench keeps two sessions ready, so that a test is a list
-// of acts.
+// Tests of the calls that name an object, over real transactions.
 ghost use Rattle.std.specs.Prelude.{◌≡◌, ◌≤◌, []};
-ghost use Rattle.xact_core.specs.Transactions.{Transactions};
-ghost use Rattle.lo_calls.specs.Descriptors.{holds_of, AreOpen};
 ghost use Rattle.lo_calls.specs.Pair.{AreReady};
 
-use crate::descs::Descs;
-use crate::session::LoSession;
-use crate::store::LoStore;
-use lo_base::{Bytes, Cause, Denied, Oid, SessionNo};
-use lo_pages::Pages;
-use row_versions::Core;
+use crate::bench::{Answer, Bench, is_content, is_done, is_number};
+use lo_base::{Cause, Oid};
 use std::alloc::Global;
 use std::process::Abort;
-use xact_core::Xacts;
-
-/// What a call answers.
-#[derive(Clone, Copy)]
-enum Answer {
-    Number(Oid),
-    Content(&'static [u8]),
-    Done,
-    Refused(Cause, i64),
-}
 
 /// What a test does, step by step. The last of each is what is expected.
 #[derive(Clone, Copy)]
@@ -48,106 +31,7 @@ enum Act {
 use Act::*;
 use Answer::{Content, Done, Number, Refused};
 
-/// The transactions, what all sessions share, the session that acts, and another one.
-#[derive(Drop)]
-struct Bench {
-    core: Core,
-    store: LoStore,
-    session: LoSession,
-    other: LoSession,
-}
-
-fn is_denied(denied: &Denied, answer: Answer) -> bool {
-    match (denied, answer) {
-        (Denied::By(r), Answer::Refused(cause, subject)) => r.cause == cause
-            && r.subject == subject,
-        _ => false,
-    }
-}
-
-fn is_number(answered: &Result<Oid, Denied>, answer: Answer) -> bool {
-    match (answered, answer) {
-        (Ok(oid), Answer::Number(number)) => *oid == number,
-        (Err(denied), _) => is_denied(denied, answer),
-        _ => false,
-    }
-}
-
-fn is_done(answered: &Result<(), Denied>, answer: Answer) -> bool {
-    match (answered, answer) {
-        (Ok(()), Answer::Done) => true,
-        (Err(denied), _) => is_denied(denied, answer),
-        _ => false,
-    }
-}
-
-fn is_content(answered: &Result<Bytes, Denied>, answer: Answer) -> bool {
-    match (answered, answer) {
-        (Ok(bytes), Answer::Content(expected)) => bytes.items() == expected,
-        (Err(denied), _) => is_denied(denied, answer),
-        _ => false,
-    }
-}
-
-fn session_of(rt: &impl Abort, alloc: Global, number: u8) -> LoSession
-    ensures number { result.s ≡ number }
-    ensures holds { holds_of result.descs ≡ [] }
-    ensures open { (x : Transactions) → AreOpen x result.s result.descs }
-{
-    LoSession {
-        descs: Descs::new(alloc).expect(rt, "memory"),
-        s: SessionNo::new(number).expect(rt, "a session"),
-    }
-}
-
 impl Bench {
-    /// Sessions 1 and 2, each in a transaction, and no objects. Numbers are picked from one on.
-    fn new(rt: &impl Abort, alloc: Global, counter: u64) -> Self
-        requires counter { counter ≤ 4294967296 }
-        ensures ready { AreReady result.core.xacts result.store result.session result.other }
-    {
-        let session = session_of(rt, alloc, 1);
-        let other = session_of(rt, alloc, 2);
-        let mut xacts = Xacts::new(alloc).expect(rt, "memory");
-        assert_eq!(rt; xacts.levels(session.s), 0);
-        assert!(rt; xacts.views() < 1000);
-        xacts.begin(session.s).expect(rt, "memory");
-        assert_eq!(rt; xacts.levels(other.s), 0);
-        assert!(rt; xacts.views() < 1000);
-        xacts.begin(other.s).expect(rt, "memory");
-        Bench {
-            core: Core { xacts },
-            store: LoStore {
-                pages: Pages::new(alloc).expect(rt, "memory"),
-                counter,
-            },
-            session,
-            other,
-        }
-    }
-
-    /// Commits the session's transaction, and begins again.
-    fn commit(&mut self, rt: &impl Abort)
-        requires ready { AreReady self.old.core.xacts self.old.store self.old.session self.old.other }
-        ensures ready { AreReady self.new.core.xacts self.new.store self.new.session self.new.other }
-    {
-        self.session.descs.end_all(&mut self.core.xacts);
-        self.core.xacts.commit(self.session.s);
-        assert!(rt; self.core.xacts.views() < 1000);
-        self.core.xacts.begin(self.session.s).expect(rt, "memory");
-    }
-
-    /// Undoes the session's transaction, and begins again.
-    fn rollback(&mut self, rt: &impl Abort)
-        requires ready { AreReady self.old.core.xacts self.old.store self.old.session self.old.other }
-        ensures ready { AreReady self.new.core.xacts self.new.store self.new.session self.new.other }
-    {
-        self.session.descs.end_all(&mut self.core.xacts);
-        self.core.xacts.abort(self.session.s);
-        assert!(rt; self.core.xacts.views() < 1000);
-        self.core.xacts.begin(self.session.s).expect(rt, "memory");
-    }
-
     /// Does an act, or compares what it expects.
     #[tactic(auto, using(crate::proofs::Benching::kept_ready, crate::proofs::Benching::swapped))]
     fn act(&mut self, rt: &impl Abort, act: &Act)
@@ -162,14 +46,14 @@ impl Bench {
                 let answered = self
                     .session
                     .lo_create(&mut self.store, &mut self.core, *oid);
-                assert!(rt; is_number(&answered, *answer));
+                assert!(rt; is_number(&answered.map(i64::from), *answer));
             }
             Act::FromBytea(oid, bytes, answer) => {
                 assert!(rt; bytes.len() <= 16777216);
                 let answered = self
                     .session
                     .lo_from_bytea(&mut self.store, &mut self.core, *oid, bytes);
-                assert!(rt; is_number(&answered, *answer));
+                assert!(rt; is_number(&answered.map(i64::from), *answer));
             }
             Act::Open(oid, mode, fd) => {
                 assert!(rt; self.core.xacts.views() < 1000);

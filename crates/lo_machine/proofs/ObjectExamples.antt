@@ -5,8 +5,9 @@ use Rattle.lo_base.specs.declared.refusal.Cause.TheVariants.{Failed, NoOids, NoO
 use Rattle.lo_base.specs.declared.reply.Reply.TheVariants.{Word, Content}
 use Rattle.lo_base.specs.declared.reply.Word.TheVariants as words
 use Rattle.lo_base.specs.declared.request.Request.TheVariants.{Begin, Commit, Rollback, Savepoint, RollbackTo, LoCreat, LoCreate, LoUnlink, LoGet, LoPut, LoFromBytea, Vacuum}
+use Rattle.lo_calls.specs.Terms.{too_much}
 use Rattle.lo_machine.specs.Run.{Moment, started}
-use Rattle.lo_machine.specs.Terms.{too_much, refusal}
+use Rattle.lo_machine.specs.Terms.{refusal}
 use Rattle.lo_machine.proofs.WordsOfExamples.{refused, refused_for, number, ok, begun, rolled_back, committed, saved, by_a, by_b, by_c, by_d, Plays, PlaysFrom, with_blocks}
 
 -- bytes from one page into the next

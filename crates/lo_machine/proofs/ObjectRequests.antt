@@ -24,7 +24,7 @@ use Rattle.lo_machine.specs.Engine.{Keeps, KeepsAt, Does, Tops, object_kept}
 use Rattle.lo_machine.specs.History.{history_of}
 use Rattle.lo_machine.specs.Served.{IsAllBytes}
 use Rattle.lo_machine.specs.State.{owner_in}
-use Rattle.lo_machine.specs.Terms.{read_limit}
+use Rattle.lo_calls.specs.Terms.{read_limit}
 use Rattle.lo_machine.specs.Plain.{PlainState, now, object_now, answered, refused, sent, edited, unless_held, changed, created, written, put, offset_of, got, served}
 use Rattle.lo_machine.proofs.TransactionRequests.{levels_now, does_as, does_nothing}
 use Rattle.lo_machine.proofs.KeptEdits.{IsNew, keeps_turned, keeps_still, keeps_added, object_kept-now, held_now}

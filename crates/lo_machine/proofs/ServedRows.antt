@@ -21,7 +21,9 @@ use Rattle.lo_machine.specs.Plain as plain
 use Rattle.lo_machine.specs.Served.{IsServed, put_limit}
 use Rattle.lo_machine.specs.State.{State, Outcome, edits, session_of, view_of, refused}
 use Rattle.lo_machine.specs.Step.{outcome}
-use Rattle.lo_machine.specs.Terms.{refusal, largest_size, read_limit}
+use Rattle.lo_calls.specs.Terms.{read_limit}
+use Rattle.lo_machine.specs.Terms.{refusal}
+use Rattle.lo_pages.specs.Outcome.{largest_size}
 
 -- what the engine does is what the step does
 pub record Matches (p : PlainOutcome) (done : Outcome) : Type 0 where
@@ -118,14 +120,14 @@ gets_none : (st : State) (s o : ℕ) (failed : Bool) (levels : List (Option (Lis
 gets_none st s o true levels mark is at = rw mark (refuses st s Failed (pos 0) levels is)
 gets_none st s o false levels mark is at = rw (mark, at) (refuses st s NoObject (pos o) levels is)
 
-gets : (st : State) (s o : ℕ) (failed : Bool) (levels : List (Option (List ℕ))) → is_failed st s ≡ failed → levels_of st s ≡ levels → (object : Option (List ℕ)) → object_in o (view_of st s) ≡ object → (bytes : List ℕ) → object ≡ Some bytes → (many : Bool) → nat_lt read_limit (length bytes) ≡ many → Serves st s (LoGet o (pos 0) None)
-gets st s o true levels mark is object at bytes there many over = rw mark (refuses st s Failed (pos 0) levels is)
-gets st s o false levels mark is object at bytes there true over = rw (mark, at ∙ there, over) (refuses st s TooMuch (pos (length bytes)) levels is)
-gets st s o false levels mark is object at bytes there false over = rw (mark, at ∙ there, over, at ∙ there) (record { reply = refl; edits = refl; block = refl })
+gets : (st : State) (s o : ℕ) (failed : Bool) (levels : List (Option (List ℕ))) → st.blocks ≡ None → is_failed st s ≡ failed → levels_of st s ≡ levels → (object : Option (List ℕ)) → object_in o (view_of st s) ≡ object → (bytes : List ℕ) → object ≡ Some bytes → (many : Bool) → nat_lt read_limit (length bytes) ≡ many → Serves st s (LoGet o (pos 0) None)
+gets st s o true levels none mark is object at bytes there many over = rw mark (refuses st s Failed (pos 0) levels is)
+gets st s o false levels none mark is object at bytes there true over = rw (mark, at ∙ there, over) (refuses st s TooMuch (pos (length bytes)) levels is)
+gets st s o false levels none mark is object at bytes there false over = rw (mark, at ∙ there, over, none, at ∙ there) (record { reply = refl; edits = sym (append-nil (edits st)); block = refl })
 
-gets_any : (st : State) (s o : ℕ) (object : Option (List ℕ)) → object_in o (view_of st s) ≡ object → Serves st s (LoGet o (pos 0) None)
-gets_any st s o None at = gets_none st s o (is_failed st s) (levels_of st s) refl refl at
-gets_any st s o (Some bytes) at = gets st s o (is_failed st s) (levels_of st s) refl refl (Some bytes) at bytes refl (nat_lt read_limit (length bytes)) refl
+gets_any : (st : State) (s o : ℕ) → st.blocks ≡ None → (object : Option (List ℕ)) → object_in o (view_of st s) ≡ object → Serves st s (LoGet o (pos 0) None)
+gets_any st s o none None at = gets_none st s o (is_failed st s) (levels_of st s) refl refl at
+gets_any st s o none (Some bytes) at = gets st s o (is_failed st s) (levels_of st s) none refl refl (Some bytes) at bytes refl (nat_lt read_limit (length bytes)) refl
 
 pub serving : (st : State) (s : ℕ) (request : Request) → IsServed request → st.blocks ≡ None → Serves st s request
 serving st s Begin h none = begins st s (is_failed st s) (levels_of st s) refl refl
@@ -138,7 +140,7 @@ serving st s Vacuum h none = vacuums st s (is_failed st s) (levels_of st s) refl
 serving st s (LoCreate o) h none = creates st s o (is_failed st s) (levels_of st s) h none refl refl (object_in o (view_of st s)) refl (busy_with s (touched (Create o)) (edits st)) refl
 serving st s (LoPut o (pos n) bytes) h none = puts st s o n bytes (is_failed st s) (levels_of st s) h.0 h.1 none refl refl (object_in o (view_of st s)) refl (busy_with s (touched (Write o n bytes)) (edits st)) refl
 serving st s (LoPut o (negsuc n) bytes) h none = absurd h.0
-serving st s (LoGet o from None) h none = subst (λ (f : ℤ). Serves st s (LoGet o f None)) (sym h) (gets_any st s o (object_in o (view_of st s)) refl)
+serving st s (LoGet o from None) h none = subst (λ (f : ℤ). Serves st s (LoGet o f None)) (sym h) (gets_any st s o none (object_in o (view_of st s)) refl)
 serving st s (LoGet o from (Some count)) h none = absurd h
 serving st s (LoCreat a) h none = absurd h
 serving st s (LoOpen a b) h none = absurd h

@@ -14,7 +14,8 @@ use Rattle.lo_base.specs.declared.reply.Word.TheVariants as words
 use Rattle.lo_base.specs.declared.value.Value.{Value}
 use Rattle.lo_base.specs.declared.value.Value.TheVariants.{Null, Int, Oid, Bytes}
 use Rattle.lo_machine.specs.State.{State, Variable, Outcome, variable_in, with_variables, answered}
-use Rattle.lo_machine.specs.Terms.{refusal, when, no_table, no_row}
+use Rattle.lo_calls.specs.Terms.{when}
+use Rattle.lo_machine.specs.Terms.{refusal, no_table, no_row}
 use Rattle.lo_machine.specs.Values.{array_or_empty, column_in, value_under, is_int4_array}
 use Rattle.lo_machine.specs.TableRows.{columns_of, values_in, row_of, variables_of, column_refusals}
 

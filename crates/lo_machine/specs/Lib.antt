@@ -1,12 +1,11 @@
 pub mod ArrayRows
 pub mod Blocks
+pub mod CallRows
 pub mod Change
 pub mod Committed
 pub mod Counts
-pub mod DescriptorRows
 pub mod Engine
 pub mod History
-pub mod ObjectRows
 pub mod Plain
 pub mod Program
 pub mod Replay

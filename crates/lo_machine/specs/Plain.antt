@@ -20,7 +20,7 @@ use Rattle.lo_model.specs.Touch.{touched, busy_with}
 use Rattle.lo_model.specs.View.{view}
 use Rattle.lo_model.specs.Transaction.{Transaction, no_transaction, new_transaction, newest}
 use Rattle.lo_machine.specs.State.{State, owner_in, session_of}
-use Rattle.lo_machine.specs.Terms.{read_limit}
+use Rattle.lo_calls.specs.Terms.{read_limit}
 
 -- one session's transaction block is another one
 abbrev pub with_block : (session : ℕ) → Transaction → ((session : ℕ) → Transaction) → (session : ℕ) → Transaction

@@ -6,13 +6,16 @@ use Rattle.lo_base.specs.declared.refusal.Cause.TheVariants.{Failed}
 use Rattle.lo_base.specs.declared.refusal.Refusal.{Refusal}
 use Rattle.lo_base.specs.declared.request.Request.{Request}
 use Rattle.lo_base.specs.declared.request.Request.TheVariants.{Begin, Commit, Rollback, Savepoint, Release, RollbackTo, LoCreat, LoCreate, LoOpen, LoClose, LoRead, LoWrite, LoLseek, LoLseek64, LoTell, LoTell64, LoTruncate, LoTruncate64, LoUnlink, LoGet, LoPut, LoFromBytea, CreateTable, Insert, Update, Delete, Get, Ids, Slice, Declare, Fetch, Close, Rewrite, Vacuum, Array, Load, Set, Elem, Show, Vacuumlo, Step, Finish}
+use Rattle.lo_calls.specs.DescriptorRows.{open_row, close_row, read_row, write_row, seek_row, tell_row, truncate_row}
+use Rattle.lo_calls.specs.ObjectRows.{create_row, unlink_row, get_row, put_row}
+use Rattle.lo_calls.specs.Terms.{when}
 use Rattle.lo_machine.specs.ArrayRows.{array_refusals, array_granted, load_refusals, load_granted, set_refusals, set_granted, variable_refusals, elem_granted, show_granted}
-use Rattle.lo_machine.specs.DescriptorRows.{open_refusals, open_granted, close_refusals, close_granted, read_refusals, read_granted, write_refusals, write_granted, seek_refusals, seek_granted, tell_refusals, tell_granted, truncate_refusals, truncate_granted}
-use Rattle.lo_machine.specs.ObjectRows.{create_refusals, create_granted, unlink_refusals, unlink_granted, get_refusals, get_granted, put_refusals, put_granted}
+use Rattle.lo_machine.specs.CallRows.{call_refusals, call_granted}
 use Rattle.lo_machine.specs.State.{State, Outcome, session_of, state_with, refused}
 use Rattle.lo_machine.specs.SweepRows.{vacuumlo_refusals, vacuumlo_granted, act_of, act_refusals, act_granted, told_of, is_idle}
 use Rattle.lo_machine.specs.TableRows.{create_table_refusals, create_table_granted, insert_refusals, insert_granted, update_refusals, update_granted, delete_refusals, delete_granted, get_row_refusals, get_row_granted, ids_granted, slice_refusals, slice_granted, no_cursor, declare_refusals, declare_granted, fetch_refusals, fetch_granted, close_cursor_granted, rewrite_refusals, rewrite_granted, vacuum_granted}
-use Rattle.lo_machine.specs.Terms.{when, first_of, in_block, no_table}
+use Rattle.lo_machine.specs.Terms.{in_block, no_table}
+use Rattle.lo_pages.specs.Outcome.{first_of}
 use Rattle.lo_machine.specs.TransactionRows.{begin_granted, commit_granted, rollback_granted, savepoint_refusals, saved, level_refusals, release_granted, rollback_to_granted}
 
 -- the terms of a request's refusals, in order
@@ -23,22 +26,22 @@ refusals st s Rollback = []
 refusals st s (Savepoint name) = savepoint_refusals st s
 refusals st s (Release name) = level_refusals st s name
 refusals st s (RollbackTo name) = level_refusals st s name
-refusals st s (LoCreat mode) = create_refusals st s 0 []
-refusals st s (LoCreate o) = create_refusals st s o []
-refusals st s (LoOpen o mode) = open_refusals st s o mode
-refusals st s (LoClose fd) = close_refusals st s fd
-refusals st s (LoRead fd length) = read_refusals st s fd length
-refusals st s (LoWrite fd bytes) = write_refusals st s fd bytes
-refusals st s (LoLseek fd offset whence) = seek_refusals false st s fd offset whence
-refusals st s (LoLseek64 fd offset whence) = seek_refusals true st s fd offset whence
-refusals st s (LoTell fd) = tell_refusals false st s fd
-refusals st s (LoTell64 fd) = tell_refusals true st s fd
-refusals st s (LoTruncate fd size) = truncate_refusals st s fd size
-refusals st s (LoTruncate64 fd size) = truncate_refusals st s fd size
-refusals st s (LoUnlink o) = unlink_refusals st s o
-refusals st s (LoGet o from length) = get_refusals st s o from length
-refusals st s (LoPut o at bytes) = put_refusals st s o at bytes
-refusals st s (LoFromBytea o bytes) = create_refusals st s o bytes
+refusals st s (LoCreat mode) = call_refusals st s (create_row 0 [])
+refusals st s (LoCreate o) = call_refusals st s (create_row o [])
+refusals st s (LoOpen o mode) = call_refusals st s (open_row o mode)
+refusals st s (LoClose fd) = call_refusals st s (close_row fd)
+refusals st s (LoRead fd length) = call_refusals st s (read_row fd length)
+refusals st s (LoWrite fd bytes) = call_refusals st s (write_row fd bytes)
+refusals st s (LoLseek fd offset whence) = call_refusals st s (seek_row false fd offset whence)
+refusals st s (LoLseek64 fd offset whence) = call_refusals st s (seek_row true fd offset whence)
+refusals st s (LoTell fd) = call_refusals st s (tell_row false fd)
+refusals st s (LoTell64 fd) = call_refusals st s (tell_row true fd)
+refusals st s (LoTruncate fd size) = call_refusals st s (truncate_row fd size)
+refusals st s (LoTruncate64 fd size) = call_refusals st s (truncate_row fd size)
+refusals st s (LoUnlink o) = call_refusals st s (unlink_row o)
+refusals st s (LoGet o from length) = call_refusals st s (get_row o from length)
+refusals st s (LoPut o at bytes) = call_refusals st s (put_row o at bytes)
+refusals st s (LoFromBytea o bytes) = call_refusals st s (create_row o bytes)
 refusals st s (CreateTable name columns) = create_table_refusals st s name
 refusals st s (Insert table values) = insert_refusals st s table values
 refusals st s (Update table i changes) = update_refusals st s table i changes
@@ -68,22 +71,22 @@ granted st s Rollback = rollback_granted st s
 granted st s (Savepoint name) = saved st s name
 granted st s (Release name) = release_granted st s name
 granted st s (RollbackTo name) = rollback_to_granted st s name
-granted st s (LoCreat mode) = create_granted st s 0 []
-granted st s (LoCreate o) = create_granted st s o []
-granted st s (LoOpen o mode) = open_granted st s o mode
-granted st s (LoClose fd) = close_granted st s fd
-granted st s (LoRead fd length) = read_granted st s fd length
-granted st s (LoWrite fd bytes) = write_granted st s fd bytes
-granted st s (LoLseek fd offset whence) = seek_granted st s fd offset whence
-granted st s (LoLseek64 fd offset whence) = seek_granted st s fd offset whence
-granted st s (LoTell fd) = tell_granted st s fd
-granted st s (LoTell64 fd) = tell_granted st s fd
-granted st s (LoTruncate fd size) = truncate_granted st s fd size
-granted st s (LoTruncate64 fd size) = truncate_granted st s fd size
-granted st s (LoUnlink o) = unlink_granted st s o
-granted st s (LoGet o from length) = get_granted st s o from length
-granted st s (LoPut o at bytes) = put_granted st s o at bytes
-granted st s (LoFromBytea o bytes) = create_granted st s o bytes
+granted st s (LoCreat mode) = call_granted st s (create_row 0 [])
+granted st s (LoCreate o) = call_granted st s (create_row o [])
+granted st s (LoOpen o mode) = call_granted st s (open_row o mode)
+granted st s (LoClose fd) = call_granted st s (close_row fd)
+granted st s (LoRead fd length) = call_granted st s (read_row fd length)
+granted st s (LoWrite fd bytes) = call_granted st s (write_row fd bytes)
+granted st s (LoLseek fd offset whence) = call_granted st s (seek_row false fd offset whence)
+granted st s (LoLseek64 fd offset whence) = call_granted st s (seek_row true fd offset whence)
+granted st s (LoTell fd) = call_granted st s (tell_row false fd)
+granted st s (LoTell64 fd) = call_granted st s (tell_row true fd)
+granted st s (LoTruncate fd size) = call_granted st s (truncate_row fd size)
+granted st s (LoTruncate64 fd size) = call_granted st s (truncate_row fd size)
+granted st s (LoUnlink o) = call_granted st s (unlink_row o)
+granted st s (LoGet o from length) = call_granted st s (get_row o from length)
+granted st s (LoPut o at bytes) = call_granted st s (put_row o at bytes)
+granted st s (LoFromBytea o bytes) = call_granted st s (create_row o bytes)
 granted st s (CreateTable name columns) = create_table_granted st s name columns
 granted st s (Insert table values) = insert_granted st s table values
 granted st s (Update table i changes) = update_granted st s table i changes
@@ -125,6 +128,10 @@ refusal_of st s request = first_of (failed st s request ∷ refusals st s reques
 abbrev pub granted_or_refused : State → (session : ℕ) → Request → Option Refusal → Outcome
 granted_or_refused st s request None = granted st s request
 granted_or_refused st s request (Some r) = refused st s r
+
+-- what a request does in a block that is not failed, or outside one
+abbrev pub tried : State → (session : ℕ) → Request → Outcome
+tried st s request = granted_or_refused st s request (first_of (refusals st s request))
 
 -- a clean-up is told what became of its act
 abbrev pub told_sweep : State → (session : ℕ) → Request → (refused : Bool) → Outcome → Outcome

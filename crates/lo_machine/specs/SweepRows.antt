@@ -24,7 +24,8 @@ use Rattle.lo_machine.specs.State.{State, Outcome, Player, session_of, view_of, 
 use Rattle.lo_machine.specs.Terms.{in_block}
 use Rattle.lo_machine.specs.Values.{value_under}
 use Rattle.lo_machine.specs.TransactionRows.{begin_granted, commit_granted, rollback_granted}
-use Rattle.lo_machine.specs.ObjectRows.{unlink_refusals, unlink_granted}
+use Rattle.lo_calls.specs.ObjectRows.{unlink_row}
+use Rattle.lo_machine.specs.CallRows.{call_refusals, call_granted}
 use Rattle.lo_machine.specs.TableRows.{columns_of, rows_of}
 
 -- vacuumlo lists all objects of the current view, and the columns that may name one, by table name and then position.
@@ -97,13 +98,13 @@ report_in (Some h) = report h (refused_at (acts_of h) h.answers)
 -- step and finish: what the act does. Only an unlink may be refused
 
 abbrev pub act_refusals : State → (session : ℕ) → SweepAct → List (Option Refusal)
-act_refusals st s (acts.Unlink o) = unlink_refusals st s o
+act_refusals st s (acts.Unlink o) = call_refusals st s (unlink_row o)
 act_refusals st s _ = []
 
 abbrev pub act_granted : State → (session : ℕ) → SweepAct → Outcome
 act_granted st s (acts.Scan table column) = answered st s (scan_reply st s table column)
 act_granted st s acts.Begin = begin_granted st s
-act_granted st s (acts.Unlink o) = unlink_granted st s o
+act_granted st s (acts.Unlink o) = call_granted st s (unlink_row o)
 act_granted st s acts.Commit = commit_granted st s
 act_granted st s acts.Rollback = rollback_granted st s
 act_granted st s acts.Report = answered st s (report_in (st.players s).sweep)

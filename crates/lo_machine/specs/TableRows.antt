@@ -24,7 +24,9 @@ use Rattle.lo_model.specs.Stored.{stored_anew, stored_after_update}
 use Rattle.lo_model.specs.Touch.{RowsOf}
 use Rattle.lo_model.specs.Transaction.{top_level}
 use Rattle.lo_machine.specs.State.{State, Variable, Outcome, now, edits, session_of, view_of, and_made, answered, edited, with_edits, with_tables, with_session, table_in}
-use Rattle.lo_machine.specs.Terms.{when, first_of, no_block, in_block, no_table, no_row, bad_length, held_by_session, busy, busy_for, pool_short, count_of}
+use Rattle.lo_calls.specs.Terms.{when, bad_length, held_by_session, count_of}
+use Rattle.lo_pages.specs.Outcome.{first_of}
+use Rattle.lo_machine.specs.Terms.{no_block, in_block, no_table, no_row, busy, busy_for, pool_short}
 use Rattle.lo_machine.specs.Values.{judged, all_judged, values_of, plan_of, row_too_big, column_in, value_under, change_of, is_named_by, changed_row, is_bytea, is_int4_array, is_id_column, no_variable, bad_text, fits, cells_of}
 
 -- the columns of a table, and none where it is not there

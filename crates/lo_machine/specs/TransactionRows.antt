@@ -11,7 +11,8 @@ use Rattle.lo_model.specs.Levels.{released, undone, committed, aborted}
 use Rattle.lo_model.specs.Session.{Session, idle_session, session_begun, session_saved, session_released, session_undone}
 use Rattle.lo_model.specs.Transaction.{Transaction, is_open, newest}
 use Rattle.lo_machine.specs.State.{State, Outcome, now, edits, session_of, answered, left_with}
-use Rattle.lo_machine.specs.Terms.{when, no_block}
+use Rattle.lo_calls.specs.Terms.{when}
+use Rattle.lo_machine.specs.Terms.{no_block}
 
 -- a savepoint's level, the newest where several have the name
 abbrev pub level_named : State → (session : ℕ) → (name : List ℕ) → Option ℕ

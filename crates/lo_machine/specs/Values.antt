@@ -22,7 +22,8 @@ use Rattle.toast_plan.specs.Choice.{outside_of, planned_length}
 use Rattle.toast_plan.specs.Layout.{up_to_8}
 use Rattle.toast_plan.specs.Row.{value_lengths}
 use Rattle.lo_machine.specs.State.{Variable, variable_in}
-use Rattle.lo_machine.specs.Terms.{refusal, when, is_outside, count_of}
+use Rattle.lo_calls.specs.Terms.{when, is_outside, count_of}
+use Rattle.lo_machine.specs.Terms.{refusal}
 
 -- A null fits every column but the one that names the row. A number fits an int8, and an oid in its range; bytes fit a bytea;
 -- an array's text and a variable fit an array.
