@@ -14,8 +14,6 @@ use Rattle.lo_model.specs.declared.owner.Owner.TheVariants.{Running, Committed}
 use Rattle.lo_model.specs.Edit.{Deed, Create, Write, Edit}
 use Rattle.lo_model.specs.Opening.{opened}
 use Rattle.lo_machine.specs.Run.{replies_of, end_of, empty_database}
-use Rattle.lo_machine.specs.State.{State}
-use Rattle.lo_machine.specs.Step.{state_after}
 
 abbrev refused : Cause → (subject : ℕ) → Reply
 refused cause subject = Refused (record { cause = cause; subject = pos subject })

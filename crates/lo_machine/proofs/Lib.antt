@@ -1,21 +1,38 @@
 mod ArrayExamples
+pub mod CallAlone
+pub mod CallCases
+pub mod CallInBlock
+pub mod CallSteps
+pub mod CallsKept
 mod CursorExamples
 mod DescriptorExamples
+pub mod Dispatching
 mod Examples
-pub mod KeptEdits
+pub mod KeptAlike
+pub mod LevelBegins
+pub mod LevelEnds
+pub mod LevelMoves
+pub mod LevelSteps
+pub mod NewEngine
 pub mod NewestLevel
 mod ObjectExamples
-pub mod ObjectRequests
+pub mod OpenEdits
 pub mod Orders
-pub mod Overlays
+pub mod Outcomes
 mod PoolExamples
+pub mod Readings
 pub mod ReplayedRuns
+pub mod RowsAlike
 mod RunExamples
 pub mod ScriptLines
-pub mod ServedRows
-pub mod StandingEdits
-pub mod Steps
+pub mod SessionPlaces
 mod SweepExamples
 mod TableExamples
-pub mod TransactionRequests
+pub mod WellEdits
+pub mod WellSessions
+pub mod WellRows
+pub mod WellStates
+pub mod BlockAnswers
+pub mod BlockRequests
+pub mod Steps
 mod WordsOfExamples

@@ -1,5 +1,5 @@
 -- One advance more keeps a run's replay.
-use Rattle.std.proofs.Common.{◌≡◌, ◌≢◌, ℕ, ◌+◌, ◌<◌, ◌≤◌, List, [], ◌∷◌, ◌++◌, length, set, get_or, Some, refl, ap, sym, ◌∙◌, subst, arith, append_assoc, append-nil, length-set, length-append, false, true, inl, inr}
+use Rattle.std.proofs.Common.{◌≡◌, ◌≢◌, ℕ, ◌+◌, ◌<◌, ◌≤◌, List, [], ◌∷◌, ◌++◌, length, set, get_or, Some, refl, ap, sym, ◌∙◌, subst, arith, append_assoc, append-nil, length-set, length-append, false, inl, inr}
 use Rattle.std.specs.Prelude.{slice_get, IsSome, Bool, if◌then◌else◌}
 use Rattle.std.proofs.lemmas.Bool.{cases_eq, false≢true}
 use Rattle.std.proofs.lemmas.Bool.Decides.{nat_tests}
@@ -11,7 +11,7 @@ use Rattle.lo_base.specs.declared.request.Request.TheVariants.{Finish, LoCreat, 
 use Rattle.lo_machine.specs.Served.{IsServed}
 use Rattle.lo_machine.specs.State.{State}
 use Rattle.lo_machine.specs.declared.running.Running.TheInside.{Inside}
-use Rattle.lo_machine.specs.Engine.{StandsFor, steps_of}
+use Rattle.lo_machine.specs.Engine.{IsEngine, StandsFor}
 use Rattle.lo_machine.specs.Program.{program_of}
 use Rattle.lo_machine.specs.Replay.{Play, Replays, Advances, moment_of}
 use Rattle.lo_machine.specs.Run.{Moment, start, next_line, one_more, stays_at_line, moment_after, replies_at, replies_from, end_from, replies_of}
@@ -20,7 +20,7 @@ use Rattle.lo_machine.specs.Step.{reply_to, state_after}
 
 -- a request that is served is no finish, so its line is over after one advance
 pub moves_on : (st : State) (s : ℕ) (request : Request) → IsServed request → stays_at_line st s request ≡ false
-moves_on st s Finish served = absurd served
+moves_on st s Finish served = absurd (false≢true served.0)
 moves_on st s (LoCreat a) served = refl
 moves_on st s (LoOpen a b) served = refl
 moves_on st s (LoClose a) served = refl
@@ -94,9 +94,8 @@ pub record AdvancedBy (s place : ℕ) (request : Request) (reply : Reply) (old n
   pub lines_done : new.lines_done.items ≡ set old.lines_done.items place (get_or old.lines_done.items place 0 + 1)
   pub answer : reply ≡ reply_to (moment_of (play_of old)).state s request
   pub stands : StandsFor new.engine (state_after (moment_of (play_of old)).state s request)
-  pub found : old.engine.is_lost ≡ false
+  pub sound : IsEngine new.engine
   pub moves : stays_at_line (moment_of (play_of old)).state s request ≡ false
-  pub steps : steps_of new.engine ≡ steps_of old.engine + 1
 
 moment_more : (s place : ℕ) (request : Request) (reply : Reply) (old new : Inside) → AdvancedBy s place request reply old new → moment_of (play_of new) ≡ moment_after (moment_of (play_of old)) s (Some request)
 moment_more s place request reply old new by =
@@ -134,7 +133,10 @@ advanced s place request reply old new keeps by = record {
       rw (by.replies, by.programs, by.schedule, replies_more old.programs start old.schedule.items s, keeps.replays)
       (ap (λ more. replies_of old.programs old.schedule.items ++ more) (sym (replies_at_line s place request reply old new by)));
   stands = subst (λ (m : Moment). StandsFor new.engine m.state) (sym (moment_more s place request reply old new by)) by.stands;
-  steps = λ found. rw (by.schedule, length-append old.schedule.items (s ∷ []), by.steps, keeps.steps by.found) refl;
+  sound = by.sound;
+  time =
+      ap (λ (m : Moment). m.state.advances) (moment_more s place request reply old new by)
+      ∙ (ap (λ (n : ℕ). n + 1) keeps.time ∙ sym (ap (λ (xs : List ℕ). length xs) by.schedule ∙ length-append old.schedule.items (s ∷ [])));
   sessions = rw (by.lines_done, length-set) keeps.sessions;
   within = within_at s place request reply old new keeps by;
   lines_done = λ p low.
@@ -152,13 +154,14 @@ advances s place request reply old new seen is by = subst (λ (play : Play). Adv
   moment = moment_more s place request reply old new by ∙ ap (moment_after (moment_of (play_of old)) s) (sym by.line);
 }
 
--- want of memory leaves the lists, and loses the engine
+-- want of memory leaves the lists, and the engine stands for what it stood for
 pub record StaysBy (old new : Inside) : Type 0 where
   pub programs : new.programs ≡ old.programs
   pub schedule : new.schedule.items ≡ old.schedule.items
   pub replies : new.replies.items ≡ old.replies.items
   pub lines_done : new.lines_done.items ≡ old.lines_done.items
-  pub lost : new.engine.is_lost ≡ true
+  pub sound : IsEngine new.engine
+  pub stands : (st : State) → StandsFor old.engine st → StandsFor new.engine st
 
 same_play : (old new : Inside) → StaysBy old new → play_of new ≡ play_of old
 same_play old new by = rw (by.programs, by.schedule, by.replies) refl
@@ -166,11 +169,9 @@ same_play old new by = rw (by.programs, by.schedule, by.replies) refl
 pub stayed : (old new : Inside) → IsReplay old → StaysBy old new → IsReplay new
 stayed old new keeps by = record {
   replays = subst Replays (sym (same_play old new by)) keeps.replays;
-  stands = record {
-    told = λ found. absurd (false≢true (sym found ∙ by.lost));
-    uncounted = ap (λ (play : Play). (moment_of play).state.blocks) (same_play old new by) ∙ keeps.stands.uncounted;
-  };
-  steps = λ found. absurd (false≢true (sym found ∙ by.lost));
+  sound = by.sound;
+  stands = by.stands _ (subst (λ (play : Play). StandsFor old.engine (moment_of play).state) (sym (same_play old new by)) keeps.stands);
+  time = ap (λ (play : Play). (moment_of play).state.advances) (same_play old new by) ∙ (keeps.time ∙ ap (λ (xs : List ℕ). length xs) (sym by.schedule));
   sessions = ap (λ (xs : List ℕ). length xs) by.lines_done ∙ keeps.sessions;
   within = λ p low. rw (by.lines_done, by.programs) (keeps.within p low);
   lines_done = λ p low. ap (λ (xs : List ℕ). get_or xs p 0) by.lines_done ∙ (keeps.lines_done p low ∙ ap (λ (play : Play). (moment_of play).lines_done (p + 1)) (sym (same_play old new by)));

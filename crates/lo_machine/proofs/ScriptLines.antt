@@ -1,10 +1,8 @@
 -- One line of a script: its session advances until the line is over, which ends, since each act of a clean-up leaves fewer.
-use Rattle.std.proofs.Common.{◌≡◌, refl, sym, ap, ◌∙◌, subst, ℕ, zero, suc, ◌+◌, ◌≤◌, ◌==◌, Bool, true, false, not, ◌&&◌, List, [], ◌∷◌, ◌++◌, length, Option, Some, None, arith}
-use Rattle.std.specs.Prelude.{IsSome, All, is_some, if◌then◌else◌}
-use Rattle.std.proofs.lemmas.Bool.{false≢true}
+use Rattle.std.proofs.Common.{◌≡◌, refl, sym, ap, ◌∙◌, subst, ℕ, zero, suc, ◌+◌, ◌≤◌, ◌==◌, Bool, true, false, ◌&&◌, List, [], ◌∷◌, length, Option, Some, None, arith}
+use Rattle.std.specs.Prelude.{All, is_some, if◌then◌else◌}
 use Rattle.std.proofs.lemmas.Bool.Decides.{nat_tests}
 use Rattle.std.proofs.lemmas.List.Elements.{All-cons, All-nil}
-use Rattle.lo_base.specs.declared.refusal.Refusal.{Refusal}
 use Rattle.lo_base.specs.declared.request.Request.{Request}
 use Rattle.lo_base.specs.declared.request.Request.TheVariants.{Begin, Commit, Rollback, Savepoint, Release, RollbackTo, LoCreat, LoCreate, LoOpen, LoClose, LoRead, LoWrite, LoLseek, LoLseek64, LoTell, LoTell64, LoTruncate, LoTruncate64, LoUnlink, LoGet, LoPut, LoFromBytea, CreateTable, Insert, Update, Delete, Get, Ids, Slice, Declare, Fetch, Close, Rewrite, Vacuum, Array, Load, Set, Elem, Show, Vacuumlo, Step, Finish}
 use Rattle.orphan_sweep.specs.declared.act.SweepAct.{SweepAct}
@@ -12,11 +10,10 @@ use Rattle.orphan_sweep.specs.declared.act.SweepAct.TheVariants as acts
 use Rattle.orphan_sweep.specs.History.{History, and_told, next_act, acts_left}
 use Rattle.orphan_sweep.specs.Plan.{is_answer_to}
 use Rattle.orphan_sweep.proofs.Endings.{leaves_fewer}
-use Rattle.lo_machine.specs.Program.{program_of}
-use Rattle.lo_machine.specs.Run.{Moment, next_line, one_more, stays_at_line, is_finish, lines_after, moment_after, end_from, IsPlayable, acts_before, line_schedule}
-use Rattle.lo_machine.specs.State.{State, Outcome, Player, session_of, with_player}
+use Rattle.lo_machine.specs.Run.{Moment, next_line, one_more, stays_at_line, is_finish, moment_after, end_from, IsPlayable, acts_before, line_schedule}
+use Rattle.lo_machine.specs.State.{State, Outcome, Player, session_of}
 use Rattle.lo_machine.specs.Step.{refusal_of, granted_or_refused, outcome, state_after}
-use Rattle.lo_machine.specs.SweepRows.{act_of, act_in, told_of, answer_to, is_before_report, is_idle, act_refusals}
+use Rattle.lo_machine.specs.SweepRows.{act_of, act_in, told_of, answer_to, is_before_report, is_idle}
 
 -- The acts of a clean-up.
 

@@ -1,86 +1,118 @@
--- From what a request did, counted by one tick, to a step of every state that the engine stood for.
-use Rattle.std.proofs.Common.{◌≡◌, ◌≤◌, ℕ, zero, suc, ◌-◌, ◌==◌, Bool, true, false, ap, List, [], Option, replicate, refl, ◌∙◌, arith}
-use Rattle.std.specs.Prelude.{if◌then◌else◌, Result, Ok, Err, IfOk}
-use Rattle.std.specs.Result.{is_err}
-use Rattle.std.proofs.lemmas.List.{get_or-replicate}
-use Rattle.std.proofs.lemmas.List.Elements.{All-nil}
-use Rattle.lo_base.specs.declared.memory.NoMemory.{NoMemory}
+-- A request that is served: a failed block refuses it, or it is tried; and the clock moves on.
+use Rattle.std.proofs.Common.{◌≡◌, ◌≤◌, ℕ, zero, suc, pos, ◌+◌, ◌-◌, Bool, true, false, not, ◌∷◌, Option, None, refl, ap, sym, subst, ◌∙◌}
+use Rattle.std.specs.Prelude.{◌&&◌, is_some, slice_index_or, Ok}
+use Rattle.std.proofs.lemmas.Bool.{true≢false, false≢true}
+use Rattle.lo_base.specs.declared.refusal.Cause.TheVariants.{Failed}
+use Rattle.lo_base.specs.declared.refusal.Refusal.{Refusal}
 use Rattle.lo_base.specs.declared.reply.Reply.{Reply}
 use Rattle.lo_base.specs.declared.request.Request.{Request}
-use Rattle.lo_model.specs.Edit.{Deed, Edit}
-use Rattle.lo_machine.specs.declared.change.StampedChange.{StampedChange}
+use Rattle.lo_base.specs.declared.request.Request.TheVariants.{Commit, Rollback, RollbackTo, Step, Finish}
+use Rattle.lo_calls.specs.Terms.{when}
+use Rattle.lo_model.specs.Session.{Session}
+use Rattle.lo_pages.specs.Outcome.{first_of}
+use Rattle.lo_pages.proofs.Standing.{go_ticked, stand_ticked}
+use Rattle.xact_core.specs.Transactions.{Transactions, levels_of}
 use Rattle.lo_machine.specs.declared.engine.Engine.{Engine}
-use Rattle.lo_model.specs.Transaction.{Transaction}
-use Rattle.lo_machine.specs.Blocks.{Ticks}
-use Rattle.lo_machine.specs.Engine.{Keeps, KeepsAt, StandsFor, Does, Serves, transactions_of}
-use Rattle.lo_machine.specs.History.{history_of}
-use Rattle.lo_machine.specs.Run.{start}
-use Rattle.lo_machine.specs.Plain.{outcome, plain_of, with_block}
-use Rattle.lo_machine.specs.Served.{IsServed}
-use Rattle.lo_machine.specs.State.{State, Player, with_player}
-use Rattle.lo_machine.specs.Step.{reply_to, state_after}
-use Rattle.lo_machine.specs.Change.{edits_on}
-use Rattle.lo_machine.proofs.ServedRows.{serving}
-use Rattle.lo_machine.proofs.KeptEdits.{keeps_ticked}
-use Rattle.xact_core.specs.Stamp.{IsIssued}
-use Rattle.xact_core.specs.Transactions.{beginning, levels_of}
+use Rattle.lo_machine.specs.Engine.{xacts_of, IsEngine, HasSession, StandsFor, Serves, Leaves, Does}
+use Rattle.lo_machine.specs.Served.{is_served}
+use Rattle.lo_machine.specs.State.{State, Outcome, session_of, refused, with_player, state_with}
+use Rattle.lo_machine.specs.Step.{refusals, may_go_on, failed, refusal_of, granted_or_refused, tried, outcome}
+use Rattle.lo_machine.specs.Terms.{refusal}
+use Rattle.lo_machine.specs.Transactions.{may_recover}
+use Rattle.lo_machine.specs.Well.{IsFirst, IsWell}
+use Rattle.lo_machine.proofs.BlockRequests.{does_as, failure_is}
+use Rattle.lo_machine.proofs.WellStates.{player_as, untold, well_after}
 
--- the mark of want of memory is no part of what is kept
-abbrev marked : Engine → Bool → Engine
-marked e lost = record { alloc = e.alloc; blocks = e.blocks; history = e.history; is_lost = lost }
+recovers : (st : State) (s : ℕ) (r : Request) → may_recover r ≡ true → may_go_on st s r ≡ true
+recovers st s Commit is = refl
+recovers st s Rollback is = refl
+recovers st s (RollbackTo name) is = refl
+recovers st s r is = absurd (false≢true is)
 
-keeps_marked : (e : Engine) (lost : Bool) (clock : ℕ) (edits : List (Edit Deed)) (blocks : ℕ → Transaction) → Keeps e clock edits blocks → Keeps (marked e lost) clock edits blocks
-keeps_marked e lost clock edits blocks keeps = record { time = keeps.time; sessions = keeps.sessions; objects = keeps.objects; issued = keeps.issued }
+stops : (st : State) (s : ℕ) (r : Request) → is_served r ≡ true → may_recover r ≡ false → may_go_on st s r ≡ false
+stops st s Commit served is = absurd (true≢false is)
+stops st s Rollback served is = absurd (true≢false is)
+stops st s (RollbackTo name) served is = absurd (true≢false is)
+stops st s Step served is = absurd (false≢true served)
+stops st s Finish served is = absurd (false≢true served)
+stops st s r served is = refl
 
--- the same edits, and the same transaction blocks one by one
-keeps_as : (e : Engine) (clock : ℕ) (edits edits' : List (Edit Deed)) (blocks blocks' : ℕ → Transaction) → edits ≡ edits' → ((t : ℕ) → blocks t ≡ blocks' t) → Keeps e clock edits blocks → Keeps e clock edits' blocks'
-keeps_as e clock edits edits' blocks blocks' same each keeps = record {
-  time = keeps.time;
-  sessions = λ t low high. keeps.sessions t low high ∙ each t;
-  objects = λ o. keeps.objects o ∙ ap (edits_on o) same;
-  issued = keeps.issued;
-}
+both_false : (b : Bool) → (b && false) ≡ false
+both_false true = refl
+both_false false = refl
 
-one_by_one : (st : State) (s : ℕ) (block : Transaction) (player : Player) → block ≡ player.session.transaction → (t : ℕ) → with_block s block (transactions_of st) t ≡ (with_player s player st.players t).session.transaction
-one_by_one st s block player is t = by (t == s)
+-- a request that a failed block lets through is tried
+goes_on : (st : State) (s : ℕ) (r : Request) → ((session_of st s).transaction.failed ≡ true → may_recover r ≡ true) → failed st s r ≡ None
+goes_on st s r may = by (session_of st s).transaction.failed refl
   where
-    by : (b : Bool) → (if b then block else (st.players t).session.transaction) ≡ (if b then player else st.players t).session.transaction
-    by true = is
-    by false = refl
+    by : (b : Bool) → (session_of st s).transaction.failed ≡ b → failed st s r ≡ None
+    by true is = ap (λ (b : Bool). when b Failed (pos 0)) (ap (λ (b : Bool). (session_of st s).transaction.failed && not b) (recovers st s r (may is)) ∙ both_false (session_of st s).transaction.failed)
+    by false is = rw is refl
 
-step_ok : (old mid after : Engine) (s : ℕ) (request : Request) (reply : Reply) → IsServed request → old.is_lost ≡ false → Ticks old.blocks mid.blocks → mid.history ≡ old.history → Does mid after s (λ st. outcome st s request) reply → (st : State) → StandsFor old st → (reply ≡ reply_to st s request) × StandsFor (marked after false) (state_after st s request)
-step_ok old mid after s request reply served found ticks history does st stands =
-    let ticked : KeepsAt mid (plain_of st) = keeps_ticked old mid st.advances st.database.edits (transactions_of st) (stands.told found) ticks history in
-    let done = does.does (plain_of st) ticked in
-    let same = serving st s request served stands.uncounted in (
-      done.0 ∙ same.reply,
-      record {
-        told = λ _. keeps_marked after false _ _ _ (keeps_as after _ _ _ _ _ same.edits (one_by_one st s _ _ same.block) done.1);
-        uncounted = stands.uncounted;
-      },
-    )
+is_tried : (st : State) (s : ℕ) (r : Request) → is_served r ≡ true → failed st s r ≡ None → tried st s r ≡ outcome st s r
+is_tried st s r served none =
+    ap (λ (term : Option Refusal). granted_or_refused st s r (first_of (term ∷ refusals st s r))) (sym none)
+    ∙ sym (untold st s r (is_some (refusal_of st s r)) (granted_or_refused st s r (refusal_of st s r)) served)
 
-pub serves : (old mid after : Engine) (s : ℕ) (request : Request) (result : Result Reply NoMemory) → IsServed request → old.is_lost ≡ false → Ticks old.blocks mid.blocks → mid.history ≡ old.history → IfOk result (Does mid after s (λ st. outcome st s request)) → Serves old (marked after (is_err result)) s request result
-serves old mid after s request (Ok reply) served found ticks history does = record {
-  ok = step_ok old mid after s request reply served found ticks history does;
-  steps = (found, refl, does.time ∙ ticks.clock);
-  lost = tt;
+is_refused : (st : State) (s : ℕ) (r : Request) → is_served r ≡ true → (session_of st s).transaction.failed ≡ true → may_recover r ≡ false → refused st s (refusal Failed (pos 0)) ≡ outcome st s r
+is_refused st s r served fails may_not =
+    ap (λ (term : Option Refusal). granted_or_refused st s r (first_of (term ∷ refusals st s r))) (sym holds)
+    ∙ sym (untold st s r (is_some (refusal_of st s r)) (granted_or_refused st s r (refusal_of st s r)) served)
+  where
+    holds : failed st s r ≡ when true Failed (pos 0)
+    holds = rw (fails, stops st s r served may_not) refl
+
+module _ (s : ℕ) (low : 1 ≤ s) (high : s ≤ 16) (old new : Engine) (r : Request) (served : is_served r ≡ true) (fails : Bool) (failure : fails ≡ slice_index_or old.failed.items (s - 1) false) (answer : Reply) where
+  pub tried_does : (fails ≡ true → may_recover r ≡ true) → Does old new s (λ st. tried st s r) answer → Does old new s (λ st. outcome st s r) answer
+  tried_does may does = does_as old new s (λ st. tried st s r) (λ st. outcome st s r) answer (λ st stands. is_tried st s r served (goes_on st s r (λ is. may (sym (failure_is s low high old fails failure st stands) ∙ is)))) does
+
+  pub failed_does : fails ≡ true → may_recover r ≡ false → Does old new s (λ st. refused st s (refusal Failed (pos 0))) answer → Does old new s (λ st. outcome st s r) answer
+  failed_does is may_not does = does_as old new s (λ st. refused st s (refusal Failed (pos 0))) (λ st. outcome st s r) answer (λ st stands. is_refused st s r served (failure_is s low high old fails failure st stands ∙ is) may_not) does
+
+-- The clock moves on.
+
+abbrev pub later_at : Transactions → Transactions
+later_at x = record x { clock = x.clock + 1 }
+
+pub levels_later : (x : Transactions) (s : ℕ) → levels_of (later_at x) s ≡ levels_of x s
+levels_later x zero = refl
+levels_later x (suc i) = refl
+
+abbrev pub with_xacts : Engine → Transactions → Engine
+with_xacts e x = record e { core = record { xacts = x } }
+
+pub ticked_sound : (e : Engine) (x : Transactions) → x ≡ later_at (xacts_of e) → IsEngine e → IsEngine (with_xacts e x)
+ticked_sound e x is sound = subst (λ (y : Transactions). IsEngine (with_xacts e y)) (sym is) record {
+  goes = go_ticked (xacts_of e) (later_at (xacts_of e)) e.store.pages (record { is = refl }) sound.goes;
+  whole = record { whole = sound.whole.whole };
+  counter = sound.counter;
+  undos = sound.undos;
+  flags = sound.flags;
+  sixteen = sound.sixteen;
+  sixteen_levels = sound.sixteen_levels;
+  placed = sound.placed;
+  held = sound.held;
+  first = λ s. subst IsFirst (sym (levels_later (xacts_of e) s)) (sound.first s);
 }
-serves old mid after s request (Err e) served found ticks history does = record { ok = tt; steps = tt; lost = refl }
 
--- at its start an engine stands for the empty database
+ticked_session : (e : Engine) (s : ℕ) (session : Session) → HasSession e s session → HasSession (with_xacts e (later_at (xacts_of e))) s session
+ticked_session e s session has = record { levels = levels_later (xacts_of e) s ∙ has.levels; failed = has.failed; descriptors = has.descriptors }
 
-none_at_start : (s : ℕ) → s ≤ 16 → levels_of beginning s ≡ []
-none_at_start zero high = refl
-none_at_start (suc i) high = get_or-replicate {A = List (Option (List ℕ))} 16 i [] [] (omega arith)
-
-pub stands_at_start : (e : Engine) → e.blocks.xacts ≡ beginning → e.blocks.failed.items ≡ replicate 16 false → ((o : ℕ) → history_of e.history o ≡ []) → StandsFor e start.state
-stands_at_start e xacts failed none = record {
-  told = λ _. record {
-    time = rw xacts refl;
-    sessions = λ s low high. rw (xacts, failed, none_at_start s high, get_or-replicate {A = Bool} 16 (s - 1) false false (omega (arith, low, high))) refl;
-    objects = λ o. rw (none o) refl;
-    issued = λ o. rw (none o) (All-nil (λ (made : StampedChange). IsIssued e.blocks.xacts made.stamp));
+ticked_stands : (e : Engine) (st : State) (s : ℕ) (done : Outcome) → Leaves e st s done → IsWell (state_with st s done) → StandsFor (with_xacts e (later_at (xacts_of e))) (state_with st s done)
+ticked_stands e st s done leaves well = record {
+  time = ap (λ (n : ℕ). n + 1) leaves.time;
+  has = record {
+    edits = stand_ticked (xacts_of e) (later_at (xacts_of e)) e.store.pages done.database.edits (record { is = refl }) leaves.has.edits;
+    counter = leaves.has.counter;
+    sessions = λ t low high. ticked_session e t (with_player s done.player st.players t).session (subst (HasSession e t) (player_as st s done t) (leaves.has.sessions t low high));
   };
-  uncounted = refl;
+  well = well;
+}
+
+pub served : (old new : Engine) (x : Transactions) (s : ℕ) (r : Request) (reply : Reply) → is_served r ≡ true → x ≡ later_at (xacts_of new) → Does old new s (λ st. outcome st s r) reply → Serves old (with_xacts new x) s r (Ok reply)
+served old new x s r reply serves is does = subst (λ (y : Transactions). Serves old (with_xacts new y) s r (Ok reply)) (sym is) record {
+  ok = λ st stands. (does.reply st stands, ticked_stands new st s (outcome st s r) (does.leaves st stands) (well_after st s r serves stands.well));
+  time = ap (λ (n : ℕ). n + 1) does.time;
+  err = tt;
+  stays = tt;
 }

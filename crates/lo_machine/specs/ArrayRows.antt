@@ -5,14 +5,13 @@ use Rattle.expanded_array.specs.Array.{Array, element_at, array_set, excess}
 use Rattle.expanded_array.specs.Layout.{array_in}
 use Rattle.expanded_array.specs.Read.{array_of_text, text_refusal}
 use Rattle.expanded_array.specs.Text.{array_text}
-use Rattle.lo_base.specs.declared.column.ColType.{ColType}
 use Rattle.lo_base.specs.declared.refusal.Cause.TheVariants.{NoVariable, WrongType, ArrayTooBig}
 use Rattle.lo_base.specs.declared.refusal.Refusal.{Refusal}
 use Rattle.lo_base.specs.declared.reply.Reply.{Reply}
 use Rattle.lo_base.specs.declared.reply.Reply.TheVariants.{Word, Number, Nothing, Text}
 use Rattle.lo_base.specs.declared.reply.Word.TheVariants as words
 use Rattle.lo_base.specs.declared.value.Value.{Value}
-use Rattle.lo_base.specs.declared.value.Value.TheVariants.{Null, Int, Oid, Bytes}
+use Rattle.lo_base.specs.declared.value.Value.TheVariants.{Null, Bytes}
 use Rattle.lo_machine.specs.State.{State, Variable, Outcome, variable_in, with_variables, answered}
 use Rattle.lo_calls.specs.Terms.{when}
 use Rattle.lo_machine.specs.Terms.{refusal, no_table, no_row}

@@ -1,83 +1,142 @@
-use Rattle.std.specs.Prelude.{◌≡◌, ℕ, ◌+◌, ◌<◌, ◌≤◌, ◌^◌, true, false, List, length, Option, Some, None, All, Result, IfOk, OnErr}
+-- What an engine keeps of a state, and what its calls make of it.
+use Rattle.std.specs.Prelude.{◌≡◌, ◌≢◌, ◌≤◌, ◌<◌, ℕ, ◌+◌, ◌-◌, ◌^◌, false, List, length, map, flat_map, slice_get, slice_index_or, All, Option, Some, Result, IfOk, OnOk, OnErr, IsPermutation}
 use Rattle.lo_base.specs.declared.memory.NoMemory.{NoMemory}
 use Rattle.lo_base.specs.declared.reply.Reply.{Reply}
 use Rattle.lo_base.specs.declared.request.Request.{Request}
+use Rattle.lo_calls.specs.declared.descs.Descriptor.{Descriptor}
+use Rattle.lo_calls.specs.declared.session.LoSession.{LoSession}
+use Rattle.lo_calls.specs.Descriptors.{descriptors_of, holds_of, last_position, IsOwnHold}
+use Rattle.lo_calls.specs.World.{counter_end}
 use Rattle.lo_model.specs.Edit.{Deed, Edit}
-use Rattle.lo_model.specs.declared.owner.Owner.TheVariants.{Running}
-use Rattle.lo_machine.specs.declared.change.Change.{Change}
-use Rattle.lo_machine.specs.declared.change.StampedChange.{StampedChange}
-use Rattle.lo_machine.specs.declared.engine.Engine.{Engine}
-use Rattle.lo_model.specs.Transaction.{Transaction}
-use Rattle.lo_machine.specs.Plain.{with_block}
-use Rattle.lo_machine.specs.Blocks.{block_of}
-use Rattle.lo_machine.specs.Change.{standing, edits_on, after_seen}
-use Rattle.lo_machine.specs.History.{history_of, Adds}
-use Rattle.lo_machine.specs.Plain.{PlainState, PlainOutcome, now}
-use Rattle.lo_machine.specs.State.{State, session_of}
-use Rattle.lo_machine.specs.Step.{reply_to, state_after}
-use Rattle.xact_core.specs.Stamp.{made_at, owner_of, IsIssued}
-use Rattle.xact_core.specs.Transactions.{levels_of}
-use Rattle.xact_core.specs.declared.stamp.Stamp.{Stamp}
+use Rattle.lo_model.specs.Held.{KeptView, views_kept}
+use Rattle.lo_model.specs.Levels.{undone}
+use Rattle.lo_model.specs.Session.{Session}
+use Rattle.lo_pages.specs.declared.pages.Pages.{Pages}
+use Rattle.lo_pages.specs.Outcome.{LeavesOwn}
+use Rattle.lo_pages.specs.Standing.{GoWith, StandFor}
 use Rattle.xact_core.specs.declared.snapshot.Snapshot.{Snapshot}
+use Rattle.xact_core.specs.Kept.{view_at, kept_views, HoldsWholeViews}
+use Rattle.xact_core.specs.Transactions.{Transactions, levels_of}
+use Rattle.lo_machine.specs.declared.engine.Engine.{Engine}
+use Rattle.lo_machine.specs.Later.{all_later, with_session_at}
+use Rattle.lo_machine.specs.State.{State, Outcome, now, edits, session_of}
+use Rattle.lo_machine.specs.Step.{reply_to, state_after}
+use Rattle.lo_machine.specs.Well.{IsFirst, IsWell}
 
--- What an engine keeps at a clock: the sessions' blocks, and for each object the edits on it, in the order made. Those
--- that were undone are still among its changes, and stand for no edit.
-pub record Keeps (e : Engine) (clock : ℕ) (edits : List (Edit Deed)) (blocks : (session : ℕ) → Transaction) : Type 0 where
-  pub time : e.blocks.xacts.clock ≡ clock
-  pub sessions : (s : ℕ) → 1 ≤ s → s ≤ 16 → block_of e.blocks s ≡ blocks s
-  pub objects : (o : ℕ) → standing e.blocks.xacts o (history_of e.history o) ≡ edits_on o edits
-  pub issued : (o : ℕ) → All (λ (made : StampedChange). IsIssued e.blocks.xacts made.stamp) (history_of e.history o)
+-- the transactions, and their clock
+abbrev pub xacts_of : Engine → Transactions
+xacts_of e = e.core.xacts
 
--- an engine that found memory for all its requests
-abbrev pub IsTold : Engine → Type 0
-IsTold e = e.is_lost ≡ false
+abbrev pub clock_of : Engine → ℕ
+clock_of e = (xacts_of e).clock
 
-abbrev pub transactions_of : State → (session : ℕ) → Transaction
-transactions_of st s = (session_of st s).transaction
+-- a session's levels in the engine
+abbrev pub names_in : Engine → (session : ℕ) → List (Option (List ℕ))
+names_in e s = levels_of (xacts_of e) s
 
--- Which states an engine stands for: those in which blocks are not counted, with the edits and the transaction blocks that it
--- keeps. Nothing is told of one that found no memory.
+-- the views that all descriptors hold, and those of one session's
+abbrev pub holds_at : LoSession → List Snapshot
+holds_at session = holds_of session.descs
+
+abbrev pub all_holds : List LoSession → List Snapshot
+all_holds sessions = flat_map holds_at sessions
+
+-- one of the sixteen sessions, at its place
+pub record IsPlaced (place : ℕ) (session : LoSession) : Type 0 where
+  pub number : session.s ≡ place + 1
+  pub most : length session.descs.entries.items ≤ 256
+  pub positions : All (λ (d : Descriptor). d.position ≤ last_position) session.descs.entries.items
+  pub holds : All (λ (d : Descriptor). IsOwnHold (place + 1) d.hold) session.descs.entries.items
+
+-- What an engine keeps through all requests. Of the transactions' views exactly those are held that its descriptors hold.
+pub record IsEngine (e : Engine) : Type 0 where
+  pub goes : GoWith (xacts_of e) e.store.pages
+  pub whole : HoldsWholeViews (xacts_of e)
+  pub counter : e.store.counter ≤ counter_end
+  pub undos : e.undos ≡ (xacts_of e).undos
+  pub flags : length e.failed.items ≡ 16
+  pub sixteen : length e.sessions.items ≡ 16
+  pub sixteen_levels : length (xacts_of e).levels ≡ 16
+  pub placed : (place : ℕ) (session : LoSession) → slice_get e.sessions.items place ≡ Some session → IsPlaced place session
+  pub held : IsPermutation (xacts_of e).held (all_holds e.sessions.items)
+  pub first : (s : ℕ) → IsFirst (names_in e s)
+
+-- what an engine keeps of a session: levels, failure, descriptors
+pub record HasSession (e : Engine) (s : ℕ) (session : Session) : Type 0 where
+  pub levels : names_in e s ≡ session.transaction.levels
+  pub failed : slice_index_or e.failed.items (s - 1) false ≡ session.transaction.failed
+  pub descriptors : (own : LoSession) → slice_get e.sessions.items (s - 1) ≡ Some own → descriptors_of own.descs ≡ all_later session.descriptors
+
+abbrev pub HasSessions : Engine → (ℕ → Session) → Type 0
+HasSessions e sessions = (s : ℕ) → 1 ≤ s → s ≤ 16 → HasSession e s (sessions s)
+
+-- what it keeps of a state: edits on objects, counter, blocks with their levels, and descriptors
+pub record Has (e : Engine) (ys : List (Edit Deed)) (number : ℕ) (players : ℕ → Session) : Type 0 where
+  pub edits : StandFor (xacts_of e) e.store.pages ys
+  pub counter : e.store.counter ≡ number
+  pub sessions : HasSessions e players
+
+-- Which states an engine stands for.
 pub record StandsFor (e : Engine) (st : State) : Type 0 where
-  pub told : e.is_lost ≡ false → Keeps e st.advances st.database.edits (transactions_of st)
-  pub uncounted : st.blocks ≡ None
-
--- the number of requests that an engine has served
-abbrev pub steps_of : Engine → ℕ
-steps_of e = e.blocks.xacts.clock
-
--- an engine that found no memory has nothing to count
-pub record HasRoom (e : Engine) : Type 0 where
-  pub steps : e.is_lost ≡ false → steps_of e < 2 ^ 62
+  pub time : clock_of e ≡ now st
+  pub has : Has e (edits st) st.database.counter (session_of st)
+  pub well : IsWell st
 
 -- What a request does to an engine, from every state that it stood for: the reply is that of the step, and the engine then
--- stands for the next state. One that finds no memory is lost, and stays so.
+-- stands for the next state. Where it finds no memory it stands for what it stood for.
 pub record Serves (old new : Engine) (session : ℕ) (request : Request) (result : Result Reply NoMemory) : Type 0 where
   pub ok : IfOk result (λ reply. (st : State) → StandsFor old st → (reply ≡ reply_to st session request) × StandsFor new (state_after st session request))
-  pub steps : IfOk result (λ reply. (old.is_lost ≡ false) × (new.is_lost ≡ false) × (steps_of new ≡ steps_of old + 1))
-  pub lost : OnErr result (new.is_lost ≡ true)
+  pub time : OnOk result (clock_of new ≡ clock_of old + 1)
+  pub err : OnErr result ((st : State) → StandsFor old st → StandsFor new st)
+  pub stays : OnErr result (clock_of new ≡ clock_of old)
 
--- In the midst of a step its clock is counted already.
-abbrev pub KeepsAt : Engine → PlainState → Type 0
-KeepsAt e st = Keeps e (now st) st.database.edits st.blocks
+-- What is within a step.
 
--- what an outcome leaves
-abbrev pub Leaves : Engine → PlainState → (session : ℕ) → PlainOutcome → Type 0
-Leaves e st s done = Keeps e (now st) done.edits (with_block s done.block st.blocks)
+-- what an outcome leaves, before the clock moves on
+pub record Leaves (e : Engine) (st : State) (session : ℕ) (done : Outcome) : Type 0 where
+  pub time : clock_of e ≡ now st
+  pub has : Has e done.database.edits done.database.counter (with_session_at session done.player.session (session_of st))
 
--- A reply and what was done are those of an outcome, from every state that the engine was in.
-pub record Does (old new : Engine) (session : ℕ) (outcome : PlainState → PlainOutcome) (reply : Reply) : Type 0 where
-  pub does : (st : PlainState) → KeepsAt old st → (reply ≡ (outcome st).reply) × Leaves new st session (outcome st)
-  pub time : steps_of new ≡ steps_of old
+-- a reply and what was done are those of an outcome, from every state that the engine stood for
+pub record Does (old new : Engine) (session : ℕ) (outcome : State → Outcome) (answer : Reply) : Type 0 where
+  pub reply : (st : State) → StandsFor old st → answer ≡ (outcome st).reply
+  pub leaves : (st : State) → StandsFor old st → Leaves new st session (outcome st)
+  pub time : clock_of new ≡ clock_of old
 
--- the object of a number in a view
-abbrev pub object_kept : Engine → Snapshot → (oid : ℕ) → Option (List ℕ)
-object_kept e v o = after_seen e.blocks.xacts v None (history_of e.history o)
+-- nothing was done: the engine stands for the states that it stood for
+pub record Undone (old new : Engine) : Type 0 where
+  pub stands : (st : State) → StandsFor old st → StandsFor new st
+  pub time : clock_of new ≡ clock_of old
 
--- An object has one change more, which belongs to the session's top level and was made now.
-pub record Tops (old new : Engine) (session oid : ℕ) (change : Change) : Type 0 where
-  pub stamp : Stamp
-  pub made : made_at stamp ≡ old.blocks.xacts.clock
-  pub owner : owner_of old.blocks.xacts stamp ≡ Some (Running session (length (levels_of old.blocks.xacts session)))
-  pub issued : IsIssued old.blocks.xacts stamp
-  pub added : Adds oid (record { stamp = stamp; change = change }) old.history new.history
-  pub blocks : new.blocks ≡ old.blocks
+-- A session's levels, or its transaction, began or ended. It now has levels of these names. What that makes of the edits
+-- and of the session is so whatever these were, and no other session changed.
+pub record Becomes (session : ℕ) (left : List (Option (List ℕ))) (turned : List (Edit Deed) → List (Edit Deed)) (after : Session → Session) (old new : Engine) : Type 0 where
+  pub has : (ys : List (Edit Deed)) (counter : ℕ) (sessions : ℕ → Session) → Has old ys counter sessions →
+      Has new (turned ys) counter (with_session_at session (after (sessions session)) sessions)
+  pub sessions : (sessions : ℕ → Session) → HasSessions old sessions →
+      HasSessions new (with_session_at session (after (sessions session)) sessions)
+  pub names : names_in new session ≡ left
+  pub time : clock_of new ≡ clock_of old
+  pub undos : (xacts_of new).undos ≤ (xacts_of old).undos + 1
+  pub views : length (kept_views (xacts_of new)) ≤ length (kept_views (xacts_of old)) + 2
+  pub others : (t : ℕ) → 1 ≤ t → t ≤ 16 → t ≢ session → names_in new t ≡ names_in old t
+  pub store : new.store ≡ old.store
+
+-- What was written at the session's top level since the pages stood for some edits is lost with that level.
+pub record Loses (session level : ℕ) (old new : Engine) : Type 0 where
+  pub lost : (before : Pages) (ys : List (Edit Deed)) → level ≡ length (names_in old session) →
+      LeavesOwn (xacts_of old) session before old.store.pages → StandFor (xacts_of old) before ys →
+      StandFor (xacts_of new) new.store.pages (undone session level ys)
+
+-- room for a request: few undoings and few kept views so far
+pub record HasRoom (e : Engine) : Type 0 where
+  pub undos : (xacts_of e).undos < 2 ^ 62
+  pub views : length (kept_views (xacts_of e)) < 2 ^ 62
+
+-- A view that a state keeps, as an engine keeps it: with the edits of the present clock.
+abbrev pub later_view : KeptView → Snapshot
+later_view v = view_at (v.clock + 1) v.viewer
+
+-- The views that the transactions keep are those that the state keeps, each as often.
+pub record KeepsViews (e : Engine) (st : State) : Type 0 where
+  pub views : IsPermutation (kept_views (xacts_of e)) (map later_view (views_kept (now st) (session_of st)))

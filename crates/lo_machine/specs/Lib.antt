@@ -1,12 +1,13 @@
+pub mod Alike
 pub mod ArrayRows
-pub mod Blocks
+pub mod CallRow
 pub mod CallRows
-pub mod Change
 pub mod Committed
-pub mod Counts
+pub mod Dispatch
 pub mod Engine
-pub mod History
-pub mod Plain
+pub mod Later
+pub mod Moves
+pub mod NewEngine
 pub mod Program
 pub mod Replay
 pub mod Run
@@ -19,4 +20,6 @@ pub mod SweepRows
 pub mod TableRows
 pub mod Terms
 pub mod TransactionRows
+pub mod Transactions
 pub mod Values
+pub mod Well

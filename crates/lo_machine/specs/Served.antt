@@ -1,33 +1,37 @@
-use Rattle.std.specs.Prelude.{◌≡◌, ℕ, ℤ, pos, negsuc, ◌≤◌, All, List, length, Option, Some, None}
+-- The requests that are served so far, which the grammar takes: those of transactions and of large objects, and `vacuum`.
+use Rattle.std.specs.Prelude.{◌≡◌, Bool, true, false, All, List}
 use Rattle.lo_base.specs.declared.request.Request.{Request}
-use Rattle.lo_base.specs.declared.request.Request.TheVariants.{Begin, Commit, Rollback, Savepoint, Release, RollbackTo, LoCreate, LoPut, LoGet, Vacuum}
-use Rattle.lo_base.specs.Name.{IsName}
+use Rattle.lo_base.specs.declared.request.Request.TheVariants.{Begin, Commit, Rollback, Savepoint, Release, RollbackTo, LoCreat, LoCreate, LoOpen, LoClose, LoRead, LoWrite, LoLseek, LoLseek64, LoTell, LoTell64, LoTruncate, LoTruncate64, LoUnlink, LoGet, LoPut, LoFromBytea, Vacuum}
+use Rattle.lo_machine.specs.Spelled.{IsSpelled}
 
--- The requests that are served so far, which the grammar takes: savepoints have names, objects are numbered from 1, a put begins at most
--- 8388608 bytes into its object and has at most as many, and a get asks for all bytes.
-abbrev pub put_limit : ℕ
-put_limit = 8388608
-
-abbrev pub IsPutOffset : ℤ → Type 0
-IsPutOffset (pos at) = at ≤ put_limit
-IsPutOffset (negsuc n) = ⊥
-
-abbrev pub IsAllBytes : ℤ → Option ℤ → Type 0
-IsAllBytes from None = from ≡ pos 0
-IsAllBytes from (Some length) = ⊥
+abbrev pub is_served : Request → Bool
+is_served Begin = true
+is_served Commit = true
+is_served Rollback = true
+is_served (Savepoint name) = true
+is_served (Release name) = true
+is_served (RollbackTo name) = true
+is_served (LoCreat mode) = true
+is_served (LoCreate o) = true
+is_served (LoOpen o mode) = true
+is_served (LoClose fd) = true
+is_served (LoRead fd length) = true
+is_served (LoWrite fd bytes) = true
+is_served (LoLseek fd offset whence) = true
+is_served (LoLseek64 fd offset whence) = true
+is_served (LoTell fd) = true
+is_served (LoTell64 fd) = true
+is_served (LoTruncate fd size) = true
+is_served (LoTruncate64 fd size) = true
+is_served (LoUnlink o) = true
+is_served (LoGet o from length) = true
+is_served (LoPut o at bytes) = true
+is_served (LoFromBytea o bytes) = true
+is_served Vacuum = true
+is_served _ = false
 
 abbrev pub IsServed : Request → Type 0
-IsServed Begin = Unit {0}
-IsServed Commit = Unit {0}
-IsServed Rollback = Unit {0}
-IsServed (Savepoint name) = IsName name
-IsServed (Release name) = IsName name
-IsServed (RollbackTo name) = IsName name
-IsServed Vacuum = Unit {0}
-IsServed (LoCreate o) = 1 ≤ o
-IsServed (LoPut o at bytes) = IsPutOffset at × (length bytes ≤ put_limit)
-IsServed (LoGet o from length) = IsAllBytes from length
-IsServed _ = ⊥
+IsServed r = (is_served r ≡ true) × IsSpelled r
 
 -- programs of such requests alone
 abbrev pub AreServed : List (List Request) → Type 0

@@ -1,16 +1,15 @@
 -- The requests that a script can spell. The types of numbers have their ranges already.
-use Rattle.std.specs.Prelude.{◌≡◌, ◌≢◌, ℕ, ℤ, pos, negsuc, ◌<◌, ◌≤◌, Bool, true, false, not, ◌&&◌, ◌||◌, ◌==◌, List, [], ◌∷◌, length, map, Option, Some, None}
+use Rattle.std.specs.Prelude.{◌≡◌, ℕ, ℤ, pos, ◌<◌, ◌≤◌, true, false, ◌||◌, ◌==◌, List, [], ◌∷◌, length, map, Option, Some, None}
 use Rattle.std.specs.List.{AllByRecursion, list_any}
 use Rattle.lo_base.specs.declared.column.Column.{Column}
-use Rattle.lo_base.specs.declared.column.ColType.{ColType}
 use Rattle.lo_base.specs.declared.column.ColType.TheVariants as types
 use Rattle.lo_base.specs.declared.request.Assign.{Assign}
 use Rattle.lo_base.specs.declared.request.Request.{Request}
-use Rattle.lo_base.specs.declared.request.Request.TheVariants.{Begin, Commit, Rollback, Savepoint, Release, RollbackTo, LoCreat, LoCreate, LoOpen, LoClose, LoRead, LoWrite, LoLseek, LoLseek64, LoTell, LoTell64, LoTruncate, LoTruncate64, LoUnlink, LoGet, LoPut, LoFromBytea, CreateTable, Insert, Update, Delete, Get, Ids, Slice, Declare, Fetch, Close, Rewrite, Vacuum, Array, Load, Set, Elem, Show, Vacuumlo, Step, Finish}
+use Rattle.lo_base.specs.declared.request.Request.TheVariants.{Savepoint, Release, RollbackTo, LoWrite, LoGet, LoPut, LoFromBytea, CreateTable, Insert, Update, Delete, Get, Ids, Slice, Declare, Fetch, Close, Rewrite, Array, Load, Set, Elem, Show, Vacuumlo}
 use Rattle.lo_base.specs.declared.value.Literal.{Literal}
 use Rattle.lo_base.specs.declared.value.Literal.TheVariants.{Null, Number, Bytes, ArrayText, Variable}
 use Rattle.lo_base.specs.Name.{IsName}
-use Rattle.toast_plan.specs.Columns.{IsTableColumns, AreDistinct, IsPlainIfFixed}
+use Rattle.toast_plan.specs.Columns.{IsTableColumns, AreDistinct}
 
 -- the most bytes of a literal
 abbrev pub bytes_limit : ℕ

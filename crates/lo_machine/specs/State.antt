@@ -1,5 +1,5 @@
 -- The state between two advances, and what one request makes of it.
-use Rattle.std.specs.Prelude.{ℕ, ℤ, pos, ◌+◌, ◌==◌, Bool, true, false, List, [], ◌∷◌, ◌++◌, length, Option, Some, None, bytes_eq, if◌then◌else◌}
+use Rattle.std.specs.Prelude.{ℕ, ◌+◌, ◌==◌, Bool, true, false, List, [], ◌∷◌, ◌++◌, length, Option, Some, None, bytes_eq, if◌then◌else◌}
 use Rattle.std.specs.List.{find}
 use Rattle.expanded_array.specs.Array.{Array}
 use Rattle.lo_base.specs.declared.reply.Reply.{Reply}

@@ -1,6 +1,6 @@
 -- Clean-ups of orphans: which objects are listed, which columns are scanned, and what each act does. Which act comes next is
 -- orphan_sweep's own. (Manual, vacuumlo.)
-use Rattle.std.specs.Prelude.{ℕ, ℤ, pos, Bool, true, false, List, [], ◌∷◌, ◌++◌, length, map, filter, Option, Some, None, if◌then◌else◌}
+use Rattle.std.specs.Prelude.{ℕ, Bool, true, false, List, [], ◌∷◌, length, map, filter, Option, Some, None, if◌then◌else◌}
 use Rattle.std.specs.List.{flat_map}
 use Rattle.lo_base.specs.declared.column.Column.{Column}
 use Rattle.lo_base.specs.declared.column.ColType.{ColType}
@@ -10,7 +10,7 @@ use Rattle.lo_base.specs.declared.reply.Reply.{Reply}
 use Rattle.lo_base.specs.declared.reply.Reply.TheVariants.{Word, Counted, Stopped}
 use Rattle.lo_base.specs.declared.reply.Word.TheVariants as words
 use Rattle.lo_base.specs.declared.value.Value.{Value}
-use Rattle.lo_base.specs.declared.value.Value.TheVariants.{Null, Int, Oid, Bytes}
+use Rattle.lo_base.specs.declared.value.Value.TheVariants.{Oid}
 use Rattle.lo_model.specs.Database.{Table}
 use Rattle.lo_model.specs.Listing.{oids_in, tables_in_order}
 use Rattle.orphan_sweep.specs.declared.act.Scan.{Scan}
@@ -20,7 +20,7 @@ use Rattle.orphan_sweep.specs.declared.act.Told.{Told}
 use Rattle.orphan_sweep.specs.declared.act.Told.TheVariants.{Found, Granted, Refused}
 use Rattle.orphan_sweep.specs.History.{History, begun, and_told, next_act, rest_of, removed_of, acts_of}
 use Rattle.orphan_sweep.specs.Rest.{less}
-use Rattle.lo_machine.specs.State.{State, Outcome, Player, session_of, view_of, answered, with_sweep}
+use Rattle.lo_machine.specs.State.{State, Outcome, Player, view_of, answered, with_sweep}
 use Rattle.lo_machine.specs.Terms.{in_block}
 use Rattle.lo_machine.specs.Values.{value_under}
 use Rattle.lo_machine.specs.TransactionRows.{begin_granted, commit_granted, rollback_granted}

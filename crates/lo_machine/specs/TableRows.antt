@@ -1,9 +1,8 @@
 -- The requests on tables, rows and cursors: the terms of their refusals in order, and what is granted where none holds. A term
 -- that looks at a table or a row stands behind the one that refuses where it is not there.
-use Rattle.std.specs.Prelude.{ℕ, ℤ, pos, ◌+◌, ◌==◌, Bool, true, false, not, ◌&&◌, ◌||◌, nat_le, List, [], ◌∷◌, ◌++◌, length, map, take, drop, Option, Some, None, is_none, is_some, bytes_eq, if◌then◌else◌}
+use Rattle.std.specs.Prelude.{ℕ, ℤ, pos, ◌+◌, ◌==◌, Bool, true, not, ◌||◌, nat_le, List, [], ◌∷◌, ◌++◌, length, map, take, drop, Option, Some, None, is_none, is_some, bytes_eq, if◌then◌else◌}
 use Rattle.lo_base.specs.declared.column.Column.{Column}
 use Rattle.lo_base.specs.declared.column.ColType.{ColType}
-use Rattle.lo_base.specs.declared.column.Storage.{Storage}
 use Rattle.lo_base.specs.declared.refusal.Cause.TheVariants.{TableExists, TooManyTables, NoColumn, WrongType, RowExists, NoCursor, CursorExists}
 use Rattle.lo_base.specs.declared.refusal.Refusal.{Refusal}
 use Rattle.lo_base.specs.declared.reply.Reply.{Reply}
@@ -13,13 +12,13 @@ use Rattle.lo_base.specs.declared.request.Assign.{Assign}
 use Rattle.lo_base.specs.declared.value.Literal.{Literal}
 use Rattle.lo_base.specs.declared.value.Value.{Value}
 use Rattle.lo_base.specs.declared.value.Value.TheVariants as values
-use Rattle.lo_model.specs.Database.{Database, Table}
+use Rattle.lo_model.specs.Database.{Table}
 use Rattle.lo_model.specs.Descriptor.{Cursor, cursor_in, cursor_row, without_name}
 use Rattle.lo_model.specs.Edit.{Deed, Put, Delete}
 use Rattle.lo_model.specs.Listing.{has_row, ids_in}
 use Rattle.lo_model.specs.Opening.{id_of}
 use Rattle.lo_model.specs.Row.{Row, row_in}
-use Rattle.lo_model.specs.Session.{Session, with_cursors, lowest_open}
+use Rattle.lo_model.specs.Session.{with_cursors, lowest_open}
 use Rattle.lo_model.specs.Stored.{stored_anew, stored_after_update}
 use Rattle.lo_model.specs.Touch.{RowsOf}
 use Rattle.lo_model.specs.Transaction.{top_level}
@@ -27,7 +26,7 @@ use Rattle.lo_machine.specs.State.{State, Variable, Outcome, now, edits, session
 use Rattle.lo_calls.specs.Terms.{when, bad_length, held_by_session, count_of}
 use Rattle.lo_pages.specs.Outcome.{first_of}
 use Rattle.lo_machine.specs.Terms.{no_block, in_block, no_table, no_row, busy, busy_for, pool_short}
-use Rattle.lo_machine.specs.Values.{judged, all_judged, values_of, plan_of, row_too_big, column_in, value_under, change_of, is_named_by, changed_row, is_bytea, is_int4_array, is_id_column, no_variable, bad_text, fits, cells_of}
+use Rattle.lo_machine.specs.Values.{all_judged, values_of, plan_of, row_too_big, column_in, value_under, is_named_by, changed_row, is_bytea, is_int4_array, is_id_column, no_variable, bad_text, fits, cells_of}
 
 -- the columns of a table, and none where it is not there
 abbrev pub columns_in : Option Table → List Column

@@ -1,6 +1,6 @@
 -- The requests of transaction blocks: the terms of their refusals in order, and what is granted where none holds. (Manual,
 -- BEGIN, COMMIT, ROLLBACK, SAVEPOINT, RELEASE SAVEPOINT, ROLLBACK TO SAVEPOINT.)
-use Rattle.std.specs.Prelude.{ℕ, pos, ◌+◌, Bool, true, false, List, [], ◌∷◌, Option, Some, None, is_none, if◌then◌else◌}
+use Rattle.std.specs.Prelude.{ℕ, pos, Bool, true, false, List, [], ◌∷◌, Option, Some, None, is_none}
 use Rattle.lo_base.specs.declared.reply.Reply.{Reply}
 use Rattle.lo_base.specs.declared.reply.Reply.TheVariants.{Word}
 use Rattle.lo_base.specs.declared.reply.Word.TheVariants as words
@@ -8,8 +8,8 @@ use Rattle.lo_base.specs.declared.refusal.Cause.TheVariants.{NoSavepoint}
 use Rattle.lo_base.specs.declared.refusal.Refusal.{Refusal}
 use Rattle.lo_model.specs.Edit.{Deed, Edit}
 use Rattle.lo_model.specs.Levels.{released, undone, committed, aborted}
-use Rattle.lo_model.specs.Session.{Session, idle_session, session_begun, session_saved, session_released, session_undone}
-use Rattle.lo_model.specs.Transaction.{Transaction, is_open, newest}
+use Rattle.lo_model.specs.Session.{idle_session, session_begun, session_saved, session_released, session_undone}
+use Rattle.lo_model.specs.Transaction.{is_open, newest}
 use Rattle.lo_machine.specs.State.{State, Outcome, now, edits, session_of, answered, left_with}
 use Rattle.lo_calls.specs.Terms.{when}
 use Rattle.lo_machine.specs.Terms.{no_block}

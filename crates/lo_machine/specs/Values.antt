@@ -1,5 +1,5 @@
 -- Values of rows: how the literals of a request are judged against their columns, and the values that they give.
-use Rattle.std.specs.Prelude.{ℕ, ℤ, pos, ◌+◌, ◌==◌, Bool, true, false, not, ◌&&◌, nat_lt, List, [], ◌∷◌, ◌++◌, length, map, Option, Some, None, is_none, codes, bytes_eq, if◌then◌else◌}
+use Rattle.std.specs.Prelude.{ℕ, ℤ, pos, ◌+◌, Bool, true, false, not, nat_lt, List, [], ◌∷◌, ◌++◌, Option, Some, None, is_none, codes, bytes_eq, if◌then◌else◌}
 use Rattle.std.specs.List.{find}
 use Rattle.expanded_array.specs.Array.{Array, Empty}
 use Rattle.expanded_array.specs.Flat.{flat_bytes}
@@ -23,7 +23,6 @@ use Rattle.toast_plan.specs.Layout.{up_to_8}
 use Rattle.toast_plan.specs.Row.{value_lengths}
 use Rattle.lo_machine.specs.State.{Variable, variable_in}
 use Rattle.lo_calls.specs.Terms.{when, is_outside, count_of}
-use Rattle.lo_machine.specs.Terms.{refusal}
 
 -- A null fits every column but the one that names the row. A number fits an int8, and an oid in its range; bytes fit a bytea;
 -- an array's text and a variable fit an array.

@@ -2,19 +2,18 @@
 //! sessions' programs under a schedule, which replays by its type.
 #![tactic(auto)]
 
-mod blocks;
-mod change;
+mod calls;
+mod dispatch;
 mod engine;
-mod history;
 mod law;
-mod object;
+mod levels;
 mod programs;
 mod running;
-mod scan;
 #[cfg(test)]
 mod tests;
+mod transactions;
 
 pub use engine::Engine;
-pub use law::{orders_are_whole, served_lines_take_one_advance};
+pub use law::{kept_views_are_the_states, orders_are_whole, served_lines_take_one_advance};
 pub use programs::Programs;
 pub use running::{Finished, Replies, Running, Schedule};

@@ -17,10 +17,10 @@ pub type Schedule = ListOf<SessionNo>;
 pub type Replies = ListOf<(SessionNo, Reply)>;
 
 /// More advances than a memory has room for.
-const MOST_ADVANCES: usize = 1 << 62;
+const MOST_ADVANCES: usize = (1 << 62) - 1;
 
 /// Programs that are being run. Replaying them over the schedule so far gives the replies so far, and the engine stands
-/// for the state at its end, unless it found no memory.
+/// for the state at its end.
 #[derive(Drop)]
 pub struct Running {
     programs: Programs,
@@ -85,7 +85,7 @@ impl Running {
         done as u64 + 1
     }
 
-    /// Does the session's next line. After want of memory programs, schedule and replies are as before.
+    /// Does the session's next line. After want of memory all is as before, and the line can be tried again.
     pub fn advance(&mut self, s: SessionNo) -> Result<(), NoMemory>
         requires { HasLine self.old s }
         ensures ok { OnOk result (Advances s self.old self.new) }

@@ -1,12 +1,9 @@
-use Rattle.std.proofs.Common.{refl, sym}
-use Rattle.lo_machine.proofs.TransactionRequests.{commits_nothing, commits_failed, commits}
+use Rattle.std.proofs.Common.{refl}
+use Rattle.lo_machine.proofs.BlockRequests.{committed_failed, committed_whole}
 use Rattle.lo_machine.proofs.engine.Engine.commit.Goals as goal
 
-pub returns-then-not-is_open : goal.returns-then-not-is_open
-returns-then-not-is_open c = commits_nothing c.args.self.now c.args.s c.is_open.ensures.range.0 c.is_open.ensures.range.1 (c.if-not-is_open.ensures.none refl)
+pub returns-then-is_failed-clause-does : goal.returns-then-is_failed-clause-does
+returns-then-is_failed-clause-does c = committed_failed c.args.s c.is_open.ensures.range.0 c.is_open.ensures.range.1 c.args.self.now c.end_aborted.new.self (c.if-not-is_open.ensures.open refl) c.if-is_failed.ensures c.end_aborted.ensures.becomes
 
-pub returns-then-is_failed : goal.returns-then-is_failed
-returns-then-is_failed c = commits_failed c.args.self.now _ c.args.s _ c.is_open.ensures.range.0 c.is_open.ensures.range.1 (c.if-not-is_open.ensures.open refl) (sym c.if-is_failed.ensures) c.rollback.ensures
-
-pub returns : goal.returns
-returns c = commits c.args.self.now _ c.args.s (c.if-not-is_open.ensures.open refl) (sym c.if-is_failed.ensures) c.commit.ensures refl
+pub returns-clause-does : goal.returns-clause-does
+returns-clause-does c = committed_whole c.args.s c.is_open.ensures.range.0 c.is_open.ensures.range.1 c.args.self.now c.end_committed.new.self (c.if-not-is_open.ensures.open refl) c.if-is_failed.ensures c.end_committed.ensures.becomes

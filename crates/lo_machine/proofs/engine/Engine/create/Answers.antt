@@ -1,17 +1,17 @@
-use Rattle.std.proofs.Common.{rules, ◌≡◌, true, false, subst}
-use Rattle.std.proofs.lemmas.Result.{IfOk-weaker}
-use Rattle.lo_machine.specs.Change.{is_there}
-use Rattle.lo_machine.specs.Engine.{object_kept}
-use Rattle.lo_machine.proofs.ObjectRequests.{creates, creates_not}
+use Rattle.std.proofs.Common.{w64, rules}
+use Rattle.std.proofs.lemmas.Int.{to_z-of_z}
+use Rattle.lo_machine.proofs.Dispatching.{call_ready, store_answers}
 use Rattle.lo_machine.proofs.engine.Engine.create.Goals as goal
 
-pub returns-then-exists : goal.returns-then-exists
-returns-then-exists c =
-    creates_not c.args.self.now _ c.args.s c.args.oid _
-    (subst (λ v. true ≡ is_there (object_kept c.args.self.now v c.args.oid)) c.requires.view c.if-exists.ensures)
-    (search rules)
+pub lo_create-requires : goal.lo_create-requires
+lo_create-requires c = record { ready = call_ready c.args.s c.place.result c.args.self.now c.index-session.result.now (record { place' = c.place.ensures.place; within = c.place.ensures.within; taken = c.index-session.ensures }) c.requires }
 
-pub returns : goal.returns
-returns c =
-    let missing = subst (λ v. false ≡ is_there (object_kept c.args.self.now v c.args.oid)) c.requires.view c.if-exists.ensures in
-    IfOk-weaker c.change.result _ _ (λ reply does. creates c.args.self.now _ c.args.s c.args.oid reply missing (search (rules, does))) c.change.ensures
+pub returns-in-Ok : goal.returns-in-Ok
+returns-in-Ok c = store_answers c.args.s c.place.result c.args.self.now c.index-session.result.now
+    (record { place' = c.place.ensures.place; within = c.place.ensures.within; taken = c.index-session.ensures })
+    c.requires c.lo_create.new.core c.lo_create.new.store _ _ c.lo_create.ensures.keeps (rw (to_z-of_z w64 c.from.result (search rules), c.from.ensures) c.in-Ok.ensures.ok) tt
+
+pub returns-in-Err : goal.returns-in-Err
+returns-in-Err c = store_answers c.args.s c.place.result c.args.self.now c.index-session.result.now
+    (record { place' = c.place.ensures.place; within = c.place.ensures.within; taken = c.index-session.ensures })
+    c.requires c.lo_create.new.core c.lo_create.new.store _ _ c.lo_create.ensures.keeps tt c.in-Err.ensures.err

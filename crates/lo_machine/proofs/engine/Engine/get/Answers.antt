@@ -1,21 +1,29 @@
-use Rattle.std.proofs.Common.{rules, ◌≡◌, sym, ◌∙◌, subst, None, Some}
-use Rattle.lo_machine.specs.Engine.{object_kept}
-use Rattle.lo_machine.proofs.ObjectRequests.{gets, gets_not}
+use Rattle.std.proofs.Common.{refl, w64}
+use Rattle.std.proofs.lemmas.Int.{to_z-of_z}
+use Rattle.lo_calls.specs.World.{world}
+use Rattle.lo_calls.proofs.Keeping.{keeps_same}
+use Rattle.lo_machine.proofs.Dispatching.{call_ready, store_answers}
 use Rattle.lo_machine.proofs.engine.Engine.get.Goals as goal
 
--- what the code found
-found-in-Some : (c : goal.After-send) → object_kept c.args.self.now c.args.view.now c.args.oid ≡ Some c.in-Some.bytes
-found-in-Some c = rw (← c.xacts.ensures, ← c.of.ensures) (sym c.in_ok-bytes.ensures ∙ c.in-Some.is)
+pub lo_get-requires : goal.lo_get-requires
+lo_get-requires c = record { ready = call_ready c.args.s c.place.result c.args.self.now c.index-session.result.now (record { place' = c.place.ensures.place; within = c.place.ensures.within; taken = c.index-session.ensures }) c.requires }
 
-found-in-None : (c : goal.After-refuse) → object_kept c.args.self.now c.args.view.now c.args.oid ≡ None
-found-in-None c = rw (← c.xacts.ensures, ← c.of.ensures) (sym c.in_ok-bytes.ensures ∙ c.in-None.is)
+pub returns-in-Ok : goal.returns-in-Ok
+returns-in-Ok c =
+    let ready = call_ready c.args.s c.place.result c.args.self.now c.index-session.result.now (record { place' = c.place.ensures.place; within = c.place.ensures.within; taken = c.index-session.ensures }) c.requires in
+    record {
+      answers = store_answers c.args.s c.place.result c.args.self.now c.index-session.result.now
+          (record { place' = c.place.ensures.place; within = c.place.ensures.within; taken = c.index-session.ensures })
+          c.requires c.args.self.now.core c.args.self.now.store _ _ (keeps_same (world c.args.self.now.core.xacts c.args.self.now.store c.index-session.result.now) ready) (rw (to_z-of_z w64 c.args.from c.ranges.from) at c.in-Ok.ensures.ok) tt;
+      store = refl;
+    }
 
-pub returns-in-Some : goal.returns-in-Some
-returns-in-Some c = gets c.args.self.now _ c.args.s c.args.oid c.args.from c.args.length c.in-Some.bytes _ c.requires.whole
-    (subst (λ v. object_kept c.args.self.now v c.args.oid ≡ Some c.in-Some.bytes) c.requires.view (found-in-Some c))
-    (search rules)
-
-pub returns-in-None : goal.returns-in-None
-returns-in-None c = gets_not c.args.self.now _ c.args.s c.args.oid c.args.from c.args.length _
-    (subst (λ v. object_kept c.args.self.now v c.args.oid ≡ None) c.requires.view (found-in-None c))
-    (search rules)
+pub returns-in-Err : goal.returns-in-Err
+returns-in-Err c =
+    let ready = call_ready c.args.s c.place.result c.args.self.now c.index-session.result.now (record { place' = c.place.ensures.place; within = c.place.ensures.within; taken = c.index-session.ensures }) c.requires in
+    record {
+      answers = store_answers c.args.s c.place.result c.args.self.now c.index-session.result.now
+          (record { place' = c.place.ensures.place; within = c.place.ensures.within; taken = c.index-session.ensures })
+          c.requires c.args.self.now.core c.args.self.now.store _ _ (keeps_same (world c.args.self.now.core.xacts c.args.self.now.store c.index-session.result.now) ready) tt (rw (to_z-of_z w64 c.args.from c.ranges.from) at c.in-Err.ensures.err);
+      store = refl;
+    }

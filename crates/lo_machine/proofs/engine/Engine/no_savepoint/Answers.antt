@@ -1,15 +1,13 @@
-use Rattle.std.proofs.Common.{◌≡◌, refl}
-use Rattle.lo_machine.specs.Plain.{no_savepoint}
-use Rattle.lo_machine.proofs.TransactionRequests.{refused_savepoint, no_transaction_cause, no_name_cause}
-use Rattle.lo_machine.proofs.engine.Engine.no_savepoint.Goals.{then-is_open, else-is_open}
+use Rattle.std.proofs.Common.{◌≡◌, if◌then◌else◌}
+use Rattle.lo_base.specs.declared.refusal.Cause.TheVariants.{NoBlock, NoSavepoint}
+use Rattle.lo_machine.proofs.BlockRequests.{no_level_does}
 use Rattle.lo_machine.proofs.engine.Engine.no_savepoint.Goals as goal
-use Rattle.xact_core.specs.Transactions.{levels_of}
+use Rattle.lo_machine.proofs.engine.Engine.no_savepoint.Goals.{then-is_open, else-is_open}
 
-cause : (c : goal.After-refuse) → c.if-is_open.cause ≡ no_savepoint (levels_of c.args.self.now.blocks.xacts c.args.s)
-cause c = elim c.if-is_open.branch [
-  | then-is_open w ↦ rw w.cause-is (no_name_cause _ (w.if-is_open.ensures.open refl))
-  | else-is_open w ↦ rw w.cause-is (no_transaction_cause _ (w.if-is_open.ensures.none refl))
-]
-
-pub returns : goal.returns
-returns c = refused_savepoint c.args.self.now _ c.args.s c.if-is_open.cause _ c.is_open.ensures.range.0 c.is_open.ensures.range.1 (cause c) c.refuse.ensures
+pub returns-clause-does : goal.returns-clause-does
+returns-clause-does c =
+    let is : c.if-is_open.cause ≡ (if c.is_open.result then NoSavepoint else NoBlock) = elim c.if-is_open.branch [
+      | then-is_open w ↦ rw w.if-is_open.true w.cause-is
+      | else-is_open w ↦ rw w.if-is_open.false w.cause-is
+    ] in
+    no_level_does c.args.s c.is_open.ensures.range.0 c.is_open.ensures.range.1 c.args.self.now c.refuse.new.self c.is_open.result c.if-is_open.cause c.refuse.result c.is_open.ensures.open c.is_open.ensures.none is c.refuse.ensures.does

@@ -1,25 +1,17 @@
-use Rattle.std.proofs.Common.{rules, ◌≡◌, ◌<◌, true, false, length, subst, arith}
-use Rattle.std.proofs.lemmas.Bool.Decides.{nat_tests}
-use Rattle.std.proofs.lemmas.Result.{IfOk-weaker}
-use Rattle.lo_machine.specs.Change.{is_there}
-use Rattle.lo_machine.specs.Engine.{object_kept}
-use Rattle.lo_machine.proofs.ObjectRequests.{puts, puts_not, puts_nothing}
+use Rattle.std.proofs.Common.{w64}
+use Rattle.std.proofs.lemmas.Int.{to_z-of_z}
+use Rattle.lo_machine.proofs.Dispatching.{call_ready, store_answers}
 use Rattle.lo_machine.proofs.engine.Engine.put.Goals as goal
 
-pub returns-then-not-exists : goal.returns-then-not-exists
-returns-then-not-exists c =
-    puts_not c.args.self.now _ c.args.s c.args.oid c.args.at c.args.bytes.now _
-    (subst (λ v. false ≡ is_there (object_kept c.args.self.now v c.args.oid)) c.requires.view c.if-not-exists.ensures)
-    (search rules)
+pub lo_put-requires : goal.lo_put-requires
+lo_put-requires c = record { ready = call_ready c.args.s c.place.result c.args.self.now c.index-session.result.now (record { place' = c.place.ensures.place; within = c.place.ensures.within; taken = c.index-session.ensures }) c.requires }
 
-pub returns-then-is_empty : goal.returns-then-is_empty
-returns-then-is_empty c =
-    puts_nothing c.args.self.now c.args.s c.args.oid c.args.at c.args.bytes.now
-    (subst (λ v. true ≡ is_there (object_kept c.args.self.now v c.args.oid)) c.requires.view c.if-not-exists.ensures)
-    (grind (arith, nat_tests))
+pub returns-in-Ok : goal.returns-in-Ok
+returns-in-Ok c = store_answers c.args.s c.place.result c.args.self.now c.index-session.result.now
+    (record { place' = c.place.ensures.place; within = c.place.ensures.within; taken = c.index-session.ensures })
+    c.requires c.lo_put.new.core c.lo_put.new.store _ _ c.lo_put.ensures.keeps (rw (to_z-of_z w64 c.args.at c.ranges.at) at c.in-Ok.ensures.ok) tt
 
-pub returns : goal.returns
-returns c =
-    let there = subst (λ v. true ≡ is_there (object_kept c.args.self.now v c.args.oid)) c.requires.view c.if-not-exists.ensures in
-    let some : 0 < length c.args.bytes.now = grind (arith, nat_tests) in
-    IfOk-weaker c.change.result _ _ (λ reply does. puts c.args.self.now _ c.args.s c.args.oid c.offset_of.result c.args.at c.args.bytes.now reply there some (search rules) (search (rules, does))) c.change.ensures
+pub returns-in-Err : goal.returns-in-Err
+returns-in-Err c = store_answers c.args.s c.place.result c.args.self.now c.index-session.result.now
+    (record { place' = c.place.ensures.place; within = c.place.ensures.within; taken = c.index-session.ensures })
+    c.requires c.lo_put.new.core c.lo_put.new.store _ _ c.lo_put.ensures.keeps tt (rw (to_z-of_z w64 c.args.at c.ranges.at) at c.in-Err.ensures.err)

@@ -1,9 +1,9 @@
-use Rattle.std.proofs.Common.{refl, ◌∙◌, sym}
-use Rattle.lo_machine.proofs.TransactionRequests.{rolls_to, rolls_not}
+use Rattle.std.proofs.Common.{sym, ◌∙◌}
+use Rattle.lo_machine.proofs.BlockRequests.{undone_does, not_undone_does}
 use Rattle.lo_machine.proofs.engine.Engine.rollback_to.Goals as goal
 
-pub returns-in_default : goal.returns-in_default
-returns-in_default c = rolls_not c.args.self.now _ c.args.s c.args.name.now _ c.newest.ensures.range.0 c.newest.ensures.range.1 (sym c.newest.ensures.level ∙ c.in_default.is) c.no_savepoint.ensures
+pub returns-in_default-clause-does : goal.returns-in_default-clause-does
+returns-in_default-clause-does c = not_undone_does c.args.s c.newest.ensures.range.0 c.newest.ensures.range.1 c.args.self.now c.no_savepoint.new.self c.args.name.now c.no_savepoint.result (sym c.in_default.is ∙ c.newest.ensures.level) c.no_savepoint.ensures.does
 
-pub returns : goal.returns
-returns c = rolls_to c.args.self.now _ c.args.s c.in-Some.level c.args.name.now (sym c.newest.ensures.level ∙ c.in-Some.is) c.undo.ensures refl
+pub returns-clause-does : goal.returns-clause-does
+returns-clause-does c = undone_does c.args.s c.newest.ensures.range.0 c.newest.ensures.range.1 c.args.self.now c.undo.new.self c.args.name.now c.in-Some.level c.in-Some.ensures.level c.in-Some.ensures.low c.in-Some.ensures.high c.undo.ensures.becomes

@@ -1,5 +1,16 @@
-use Rattle.lo_machine.proofs.Steps.{stands_at_start}
+use Rattle.std.proofs.Common.{◌≡◌, ◌+◌, ◌∙◌, ap, refl, replicate, false}
+use Rattle.xact_core.specs.Transactions.{Transactions}
+use Rattle.lo_machine.proofs.NewEngine.{begun, start_sound, start_stands}
 use Rattle.lo_machine.proofs.engine.Engine.start.Goals as goal
 
+pub returns-clause-sound : goal.returns-clause-sound
+returns-clause-sound c =
+    let xacts : c.tick.new.self ≡ begun = c.tick.ensures.clock ∙ ap (λ (x : Transactions). record x { clock = x.clock + 1 }) c.in_ok-xacts.ensures in
+    let failed : c.resize.new.self.items ≡ replicate 16 false = rw (c.new-failed.ensures.items, c.new-failed.ensures.len) at c.in_ok-resize.ensures.items in
+    start_sound _ (record { xacts = xacts; goes = c.in_ok-new.ensures.goes; stands = c.in_ok-new.ensures.stand; counter = refl; undos = refl; failed = failed; sessions = c.in_ok-new_sessions.ensures })
+
 pub returns-clause-stands : goal.returns-clause-stands
-returns-clause-stands c = stands_at_start _ c.in_ok-new.ensures.xacts c.in_ok-new.ensures.failed c.new-2.ensures
+returns-clause-stands c =
+    let xacts : c.tick.new.self ≡ begun = c.tick.ensures.clock ∙ ap (λ (x : Transactions). record x { clock = x.clock + 1 }) c.in_ok-xacts.ensures in
+    let failed : c.resize.new.self.items ≡ replicate 16 false = rw (c.new-failed.ensures.items, c.new-failed.ensures.len) at c.in_ok-resize.ensures.items in
+    start_stands _ (record { xacts = xacts; goes = c.in_ok-new.ensures.goes; stands = c.in_ok-new.ensures.stand; counter = refl; undos = refl; failed = failed; sessions = c.in_ok-new_sessions.ensures })

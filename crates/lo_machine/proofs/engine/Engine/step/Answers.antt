@@ -1,6 +1,15 @@
-use Rattle.std.proofs.Common.{refl}
-use Rattle.lo_machine.proofs.Steps.{serves}
+use Rattle.std.proofs.Common.{◌≡◌, arith}
+use Rattle.lo_machine.specs.Engine.{clock_of}
+use Rattle.lo_machine.proofs.Steps.{ticked_sound, served}
 use Rattle.lo_machine.proofs.engine.Engine.step.Goals as goal
 
-pub returns : goal.returns
-returns c = rw c.is_err-self.ensures.value (serves c.args.self.now _ c.outcome-reply.new.self c.args.s c.args.request.now c.outcome-reply.result c.requires.served c.if-self.false c.tick.ensures.ticks refl c.outcome-reply.ensures)
+pub tick-requires : goal.tick-requires
+tick-requires c =
+    let time : clock_of c.outcome.new.self ≡ clock_of c.args.self.now = c.in-Ok.ensures.ok.time in
+    omega (arith, time, c.requires.time)
+
+pub returns-clause-sound : goal.returns-clause-sound
+returns-clause-sound c = ticked_sound c.outcome.new.self c.tick.new.self c.tick.ensures.clock c.outcome.ensures.sound
+
+pub returns-clause-serves : goal.returns-clause-serves
+returns-clause-serves c = served c.args.self.now c.outcome.new.self c.tick.new.self c.args.s c.args.request.now c.in-Ok.reply c.requires.served.0 c.tick.ensures.clock c.in-Ok.ensures.ok

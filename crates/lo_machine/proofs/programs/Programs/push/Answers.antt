@@ -1,4 +1,4 @@
-use Rattle.std.proofs.Common.{◌≡◌, List, [], ◌∷◌, ◌++◌, rules, length, get_or, length-set, subst, sym, ◌<◌, arith}
+use Rattle.std.proofs.Common.{◌≡◌, List, [], ◌∷◌, ◌++◌, rules, length, subst, sym, ◌<◌, arith}
 use Rattle.std.specs.Prelude.{All, Result, Ok, Err, OnOk, OnErr}
 use Rattle.std.proofs.lemmas.List.Elements.{All-set, All-push, All-get_or}
 use Rattle.lo_base.specs.declared.memory.NoMemory.{NoMemory}

@@ -17,7 +17,8 @@ invariant_of-self-in_err-reply c = stayed c.self.inside _ c.self.invariant recor
   schedule = search rules;
   replies = search rules;
   lines_done = search rules;
-  lost = c.in_err-reply.ensures.lost;
+  sound = c.in_err-reply.ensures.sound;
+  stands = c.in_err-reply.ensures.serves.err;
 }
 
 -- what the advance changed, in the words of the lemmas
@@ -46,11 +47,10 @@ changed c =
       schedule = rw (c.push_reserved.ensures.items, c.reserve.ensures.items) refl;
       replies = rw (c.push_reserved-2.ensures.items, c.reserve-2.ensures.items) refl;
       lines_done = ap (λ (n : ℕ). set c.self.inside.lines_done.items c.place-place.result (n + 1)) done;
-      answer = (c.in_ok-reply.ensures.ok _ c.self.invariant.stands).0;
-      stands = (c.in_ok-reply.ensures.ok _ c.self.invariant.stands).1;
-      found = c.in_ok-reply.ensures.steps.0;
+      answer = (c.in_ok-reply.ensures.serves.ok _ c.self.invariant.stands).0;
+      stands = (c.in_ok-reply.ensures.serves.ok _ c.self.invariant.stands).1;
+      sound = c.in_ok-reply.ensures.sound;
       moves = moves_on (moment_of (play_of c.self.inside)).state c.args.s c.index-lines-done.result (search rules);
-      steps = c.in_ok-reply.ensures.steps.2;
     }
 
 pub invariant_of-self-2 : goal.invariant_of-self-2

@@ -1,0 +1,68 @@
+-- What holds of each request on large objects, said of one after another.
+use Rattle.std.proofs.Common.{◌≡◌, ℕ, ℤ, true, List, Option}
+use Rattle.std.proofs.lemmas.Bool.{false≢true}
+use Rattle.lo_base.specs.declared.request.Request.{Request}
+use Rattle.lo_base.specs.declared.request.Request.TheVariants.{Begin, Commit, Rollback, Savepoint, Release, RollbackTo, CreateTable, Insert, Update, Delete, Get, Ids, Slice, Declare, Fetch, Close, Rewrite, Vacuum, Array, Load, Set, Elem, Show, Vacuumlo, Step, Finish, LoCreat, LoCreate, LoOpen, LoClose, LoRead, LoWrite, LoLseek, LoLseek64, LoTell, LoTell64, LoTruncate, LoTruncate64, LoUnlink, LoGet, LoPut, LoFromBytea}
+use Rattle.lo_machine.specs.CallRow.{is_call}
+
+pub record CallCases (P : Request → Type 0) : Type 0 where
+  pub creat : (mode : ℤ) → P (LoCreat mode)
+  pub create : (o : ℕ) → P (LoCreate o)
+  pub open' : (o : ℕ) (mode : ℤ) → P (LoOpen o mode)
+  pub close : (fd : ℤ) → P (LoClose fd)
+  pub read : (fd : ℤ) (count : ℤ) → P (LoRead fd count)
+  pub write : (fd : ℤ) (bytes : List ℕ) → P (LoWrite fd bytes)
+  pub seek : (fd : ℤ) (offset : ℤ) (whence : ℤ) → P (LoLseek fd offset whence)
+  pub seek64 : (fd : ℤ) (offset : ℤ) (whence : ℤ) → P (LoLseek64 fd offset whence)
+  pub tell : (fd : ℤ) → P (LoTell fd)
+  pub tell64 : (fd : ℤ) → P (LoTell64 fd)
+  pub truncate : (fd : ℤ) (size : ℤ) → P (LoTruncate fd size)
+  pub truncate64 : (fd : ℤ) (size : ℤ) → P (LoTruncate64 fd size)
+  pub unlink : (o : ℕ) → P (LoUnlink o)
+  pub get : (o : ℕ) (from : ℤ) (count : Option ℤ) → P (LoGet o from count)
+  pub put : (o : ℕ) (at : ℤ) (bytes : List ℕ) → P (LoPut o at bytes)
+  pub from_bytea : (o : ℕ) (bytes : List ℕ) → P (LoFromBytea o bytes)
+
+pub each_call : (P : Request → Type 0) → CallCases P → (r : Request) → is_call r ≡ true → P r
+each_call P cases (LoCreat mode) call = cases.creat mode
+each_call P cases (LoCreate o) call = cases.create o
+each_call P cases (LoOpen o mode) call = cases.open' o mode
+each_call P cases (LoClose fd) call = cases.close fd
+each_call P cases (LoRead fd count) call = cases.read fd count
+each_call P cases (LoWrite fd bytes) call = cases.write fd bytes
+each_call P cases (LoLseek fd offset whence) call = cases.seek fd offset whence
+each_call P cases (LoLseek64 fd offset whence) call = cases.seek64 fd offset whence
+each_call P cases (LoTell fd) call = cases.tell fd
+each_call P cases (LoTell64 fd) call = cases.tell64 fd
+each_call P cases (LoTruncate fd size) call = cases.truncate fd size
+each_call P cases (LoTruncate64 fd size) call = cases.truncate64 fd size
+each_call P cases (LoUnlink o) call = cases.unlink o
+each_call P cases (LoGet o from count) call = cases.get o from count
+each_call P cases (LoPut o at bytes) call = cases.put o at bytes
+each_call P cases (LoFromBytea o bytes) call = cases.from_bytea o bytes
+each_call P cases Begin call = absurd (false≢true call)
+each_call P cases Commit call = absurd (false≢true call)
+each_call P cases Rollback call = absurd (false≢true call)
+each_call P cases (Savepoint a) call = absurd (false≢true call)
+each_call P cases (Release a) call = absurd (false≢true call)
+each_call P cases (RollbackTo a) call = absurd (false≢true call)
+each_call P cases (CreateTable a b) call = absurd (false≢true call)
+each_call P cases (Insert a b) call = absurd (false≢true call)
+each_call P cases (Update a b c) call = absurd (false≢true call)
+each_call P cases (Delete a b) call = absurd (false≢true call)
+each_call P cases (Get a b) call = absurd (false≢true call)
+each_call P cases (Ids a) call = absurd (false≢true call)
+each_call P cases (Slice a b c d e) call = absurd (false≢true call)
+each_call P cases (Declare a b c) call = absurd (false≢true call)
+each_call P cases (Fetch a b c d) call = absurd (false≢true call)
+each_call P cases (Close a) call = absurd (false≢true call)
+each_call P cases (Rewrite a b) call = absurd (false≢true call)
+each_call P cases Vacuum call = absurd (false≢true call)
+each_call P cases (Array a b) call = absurd (false≢true call)
+each_call P cases (Load a b c d) call = absurd (false≢true call)
+each_call P cases (Set a b c) call = absurd (false≢true call)
+each_call P cases (Elem a b) call = absurd (false≢true call)
+each_call P cases (Show a) call = absurd (false≢true call)
+each_call P cases (Vacuumlo a b) call = absurd (false≢true call)
+each_call P cases Step call = absurd (false≢true call)
+each_call P cases Finish call = absurd (false≢true call)

@@ -1,0 +1,44 @@
+-- A level that begins, of which no descriptor knows.
+use Rattle.std.proofs.Common.{◌≡◌, ℕ, ◌-◌, Bool, false, List, [], ◌∷◌, ◌++◌, Option, refl, sym, ◌∙◌, arith}
+use Rattle.std.specs.Prelude.{slice_index_or}
+use Rattle.std.proofs.lemmas.List.{set-get_or}
+use Rattle.row_versions.specs.declared.base.Core.{Core}
+use Rattle.xact_core.specs.Ends.{Opens}
+use Rattle.lo_pages.proofs.Standing.{go_opened, stand_opened}
+use Rattle.lo_machine.specs.declared.engine.Engine.{Engine}
+use Rattle.lo_machine.specs.Engine.{xacts_of, names_in, IsEngine, Becomes}
+use Rattle.lo_machine.specs.Moves.{unturned, session_opened}
+use Rattle.lo_machine.specs.Well.{IsFirst}
+use Rattle.lo_machine.proofs.LevelMoves.{Turned, Moves, moved_sound, moved_becomes}
+use Rattle.lo_machine.proofs.LevelSteps.{ends_none, turned_begun, after_opened}
+use Rattle.lo_machine.proofs.SessionPlaces.{IsEntry, entry_at, set_same}
+
+module _ (s : ℕ) (name : Option (List ℕ)) (names : List (Option (List ℕ))) (old : Engine) (core : Core) (sound : IsEngine old) (more : names_in old s ++ name ∷ [] ≡ names) (first : IsFirst (names_in old s) → IsFirst names) (by : Opens s name (xacts_of old) core.xacts) where
+  abbrev new : Engine
+  new = record old { core = core }
+
+  abbrev flag : Bool
+  flag = slice_index_or old.failed.items (s - 1) false
+
+  entry : IsEntry old.sessions.items (s - 1)
+  entry = entry_at old.sessions.items (s - 1) (omega (arith, by.levels.low, by.levels.high, sound.sixteen))
+
+  abbrev moves : Moves s flag old new
+  moves = record {
+    own = entry.entry;
+    own' = entry.entry;
+    stood = entry.is;
+    sessions = set_same old.sessions.items (s - 1) entry.entry entry.is;
+    number = refl;
+    failed = sym (set-get_or old.failed.items (s - 1) false);
+    store = refl;
+  }
+
+  turned : Turned s names (xacts_of old) (xacts_of new)
+  turned = turned_begun s name names (xacts_of old) core.xacts more first by
+
+  pub begun_sound : IsEngine new
+  begun_sound = moved_sound s names flag old new sound moves (xacts_of old) (ends_none (xacts_of old) entry.entry.descs) turned (go_opened s name (xacts_of old) core.xacts old.store.pages by sound.goes) (sound.undos ∙ sym by.undos)
+
+  pub begun_becomes : Becomes s names unturned (session_opened name) old new
+  begun_becomes = moved_becomes s names flag old new sound moves (xacts_of old) (ends_none (xacts_of old) entry.entry.descs) turned unturned (session_opened name) (after_opened name (names_in old s) names flag entry.entry.descs more) (λ ys stands. stand_opened s name (xacts_of old) core.xacts old.store.pages ys by stands)

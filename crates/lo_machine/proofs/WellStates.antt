@@ -1,0 +1,271 @@
+-- States stay well through the requests that are served.
+use Rattle.std.proofs.Common.{◌≡◌, ◌≤◌, ℕ, ℤ, pos, ◌+◌, ◌-◌, Bool, true, false, not, List, [], ◌∷◌, length, Option, Some, None, is_none, refl, ap, sym, subst, ◌∙◌, arith, length-append, length-take}
+use Rattle.std.specs.Prelude.{All, ◌==◌, if◌then◌else◌, is_some}
+use Rattle.std.proofs.lemmas.Bool.{true≢false, false≢true}
+use Rattle.std.proofs.lemmas.List.Elements.{All-nil, All-append, All-weaker}
+use Rattle.lo_base.specs.declared.refusal.Cause.{Cause}
+use Rattle.lo_base.specs.declared.refusal.Cause.TheVariants.{NoBlock, NoSavepoint}
+use Rattle.lo_base.specs.declared.refusal.Refusal.{Refusal}
+use Rattle.lo_base.specs.declared.reply.Reply.{Reply}
+use Rattle.lo_base.specs.declared.reply.Reply.TheVariants.{Word, Refused}
+use Rattle.lo_base.specs.declared.reply.Word.TheVariants as words
+use Rattle.lo_base.specs.declared.request.Request.{Request}
+use Rattle.lo_base.specs.declared.request.Request.TheVariants.{Begin, Commit, Rollback, Savepoint, Release, RollbackTo, LoCreat, LoCreate, LoOpen, LoClose, LoRead, LoWrite, LoLseek, LoLseek64, LoTell, LoTell64, LoTruncate, LoTruncate64, LoUnlink, LoGet, LoPut, LoFromBytea, Vacuum, Step, Finish}
+use Rattle.lo_calls.specs.DescriptorRows.{may_write, opened_by, open_row, close_row, read_row, write_row, seek_row, tell_row, truncate_row}
+use Rattle.lo_calls.specs.ObjectRows.{create_row, unlink_row, get_row, put_row}
+use Rattle.lo_calls.specs.Row.{Granted}
+use Rattle.lo_calls.specs.Terms.{when}
+use Rattle.lo_model.specs.declared.owner.Owner.{Owner}
+use Rattle.lo_model.specs.declared.owner.Owner.TheVariants.{Running, Committed}
+use Rattle.lo_model.specs.Descriptor.{Kept, Current, Descriptor, moved_to}
+use Rattle.lo_model.specs.Edit.{Deed, Edit, edits_by}
+use Rattle.lo_model.specs.Levels.{released, undone, committed, aborted}
+use Rattle.lo_model.specs.Session.{Session, idle_session, session_begun, session_saved, session_released, session_undone, with_descriptors}
+use Rattle.lo_model.specs.Transaction.{top_level, has_levels, is_open}
+use Rattle.lo_pages.specs.Outcome.{first_of}
+use Rattle.lo_machine.specs.CallRows.{here, kept_open, called}
+use Rattle.lo_machine.specs.Later.{with_session_at}
+use Rattle.lo_machine.specs.Served.{is_served}
+use Rattle.lo_machine.specs.State.{State, Outcome, now, edits, session_of, with_player, state_with, answered, left_with, refused_in, refused, owner_in, and_made}
+use Rattle.lo_machine.specs.Step.{refusals, granted, failed, refusal_of, granted_or_refused, told_sweep, state_after}
+use Rattle.lo_machine.specs.Terms.{no_block}
+use Rattle.lo_machine.specs.TransactionRows.{level_named, no_savepoint, level_or_0, begun, rolled_back, committed_in, released_to, undone_to}
+use Rattle.lo_machine.specs.Well.{IsOwner, IsPast, IsQuietAt, IsQuiet, IsDescriptor, IsSession, AreWell, IsWell}
+use Rattle.lo_machine.proofs.NewestLevel.{newest_bounds}
+use Rattle.lo_machine.proofs.WellEdits.{StayQuiet, own_session, each_session, past_kept, past_released, past_committed, past_undone, past_made, quiet_same, quiet_released, quiet_committed, quiet_undone, quiet_made, quiet_now, all_described_later, session_later}
+use Rattle.lo_machine.proofs.WellRows.{close_leaves, unlink_leaves, tell_leaves, truncate_leaves, open_leaves, read_leaves, write_leaves, seek_leaves}
+use Rattle.lo_machine.proofs.WellSessions.{open_top, none_open, idle_well, begun_well, saved_well, released_well, undone_well}
+
+-- what an outcome leaves is well, before the clock moves on
+abbrev pub IsGood : State → (session : ℕ) → Outcome → Type 0
+IsGood st s done = AreWell (now st + 1) done.database.edits (with_session_at s done.player.session (session_of st))
+
+-- the same sessions, one by one
+past_as : (n : ℕ) (sessions sessions' : ℕ → Session) → ((t : ℕ) → sessions t ≡ sessions' t) → (e : Edit Deed) → IsPast n sessions e → IsPast n sessions' e
+past_as n sessions sessions' same e is = record { made = is.made; owner = by e.owner is.owner }
+  where
+    by : (o : Owner) → IsOwner n sessions o → IsOwner n sessions' o
+    by (Running t l) own = (own.0, subst (λ (session : Session). l ≤ top_level session.transaction) (same t) own.1)
+    by (Committed c) own = own
+
+well_as : (n : ℕ) (es : List (Edit Deed)) (sessions sessions' : ℕ → Session) → ((t : ℕ) → sessions t ≡ sessions' t) → AreWell n es sessions → AreWell n es sessions'
+well_as n es sessions sessions' same well = record {
+  past = All-weaker (IsPast n sessions) (IsPast n sessions') (past_as n sessions sessions' same) es well.past;
+  each = λ t. subst (IsSession n es) (same t) (well.each t);
+}
+
+-- a session's entry in the state that an outcome leaves
+pub player_as : (st : State) (s : ℕ) (done : Outcome) (t : ℕ) → with_session_at s done.player.session (session_of st) t ≡ (with_player s done.player st.players t).session
+player_as st s done t = by (t == s)
+  where
+    by : (b : Bool) → (if b then done.player.session else (st.players t).session) ≡ (if b then done.player else st.players t).session
+    by true = refl
+    by false = refl
+
+well_with : (st : State) (s : ℕ) (done : Outcome) → IsWell st → IsGood st s done → IsWell (state_with st s done)
+well_with st s done well good = record {
+  well = well_as (now st + 1) done.database.edits (with_session_at s done.player.session (session_of st)) (session_of (state_with st s done)) (player_as st s done) good;
+  uncounted = well.uncounted;
+}
+
+-- terms that do not hold
+first_none : (term : Option Refusal) (terms : List (Option Refusal)) → first_of (term ∷ terms) ≡ None → (term ≡ None) × (first_of terms ≡ None)
+first_none None terms is = (refl, is)
+first_none (Some r) terms is = absurd (let no : Some r ≡ None = is in cc)
+
+unmet : (test : Bool) (cause : Cause) (subject : ℤ) → when test cause subject ≡ None → test ≡ false
+unmet false cause subject is = refl
+unmet true cause subject is = absurd (let no : Some (record { cause = cause; subject = subject }) ≡ None = is in cc)
+
+module _ (st : State) (s : ℕ) (well : IsWell st) where
+  abbrev n : ℕ
+  n = now st
+
+  abbrev es : List (Edit Deed)
+  es = edits st
+
+  abbrev sessions : ℕ → Session
+  sessions = session_of st
+
+  abbrev mine : Session
+  mine = session_of st s
+
+  abbrev names : List (Option (List ℕ))
+  names = mine.transaction.levels
+
+  own : IsSession n es mine
+  own = well.well.each s
+
+  -- what leaves the session's own entry well, and other sessions as they are
+  left_good : (es' : List (Edit Deed)) (session : Session) → StayQuiet n es es' → All (IsPast (n + 1) (with_session_at s session sessions)) es' → IsSession (n + 1) es' session → AreWell (n + 1) es' (with_session_at s session sessions)
+  left_good es' session stay past is = record {
+    past = past;
+    each = each_session (IsSession (n + 1) es') s session sessions is (λ t other. session_later n es es' stay (sessions t) (well.well.each t));
+  }
+
+  answered_good : (reply : Reply) → IsGood st s (answered st s reply)
+  answered_good reply = left_good es mine (quiet_same n es) (past_kept n s sessions mine es (omega arith) well.well.past) (session_later n es es (quiet_same n es) mine own)
+
+  begun_good : (inside : Bool) → is_open mine.transaction ≡ inside → IsGood st s (begun st s inside)
+  begun_good true is = answered_good (Word words.Begin)
+  begun_good false is =
+      let none : length names ≡ 0 = ap length (none_open names is) in
+      left_good es session_begun (quiet_same n es) (past_kept n s sessions session_begun es (omega (arith, none)) well.well.past) (begun_well (n + 1) es)
+
+  aborted_good : (reply : Reply) → IsGood st s (left_with st s reply (aborted s es) idle_session)
+  aborted_good reply = left_good (aborted s es) idle_session (quiet_undone n s 1 es) (past_undone n s sessions idle_session 1 es (omega arith) well.well.past) (idle_well (n + 1) (aborted s es))
+
+  committed_good : (reply : Reply) → IsGood st s (left_with st s reply (committed s n es) idle_session)
+  committed_good reply = left_good (committed s n es) idle_session (quiet_committed n s es) (past_committed n s sessions idle_session es well.well.past) (idle_well (n + 1) (committed s n es))
+
+  rolled_back_good : (inside : Bool) → IsGood st s (rolled_back st s inside)
+  rolled_back_good false = answered_good (Word words.Rollback)
+  rolled_back_good true = aborted_good (Word words.Rollback)
+
+  committed_in_good : (inside failed : Bool) → IsGood st s (committed_in st s inside failed)
+  committed_in_good false failed = answered_good (Word words.Commit)
+  committed_in_good true true = rolled_back_good true
+  committed_in_good true false = committed_good (Word words.Commit)
+
+  saved_good : (reply : Reply) (name : List ℕ) → 1 ≤ length names → IsGood st s (left_with st s reply es (session_saved name mine))
+  saved_good reply name some = left_good es (session_saved name mine) (quiet_same n es) (past_kept n s sessions (session_saved name mine) es (omega (arith, length-append names (Some name ∷ []))) well.well.past) (saved_well n es es (quiet_same n es) mine own name some)
+
+  released_good : (reply : Reply) (k : ℕ) → 2 ≤ k → k ≤ length names → IsGood st s (left_with st s reply (released s k es) (session_released k mine))
+  released_good reply k low high =
+      left_good (released s k es) (session_released k mine) (quiet_released n s k es)
+      (past_released n s sessions (session_released k mine) k es low (omega (arith, length-take (k - 1) names, high)) well.well.past)
+      (released_well n es (released s k es) (quiet_released n s k es) mine own k low high)
+
+  undone_good : (reply : Reply) (k : ℕ) (failed : Bool) → 1 ≤ k → k ≤ length names → IsGood st s (left_with st s reply (undone s k es) (session_undone k failed mine))
+  undone_good reply k failed low high =
+      left_good (undone s k es) (session_undone k failed mine) (quiet_undone n s k es)
+      (past_undone n s sessions (session_undone k failed mine) k es (omega (arith, length-take k names, high)) well.well.past)
+      (undone_well n es (undone s k es) (quiet_undone n s k es) mine own k failed low high)
+
+  refused_good : (refusal : Refusal) → IsGood st s (refused st s refusal)
+  refused_good refusal = by (is_open mine.transaction) refl
+    where
+      by : (inside : Bool) → is_open mine.transaction ≡ inside → IsGood st s (refused_in st s inside refusal)
+      by false is = answered_good (Refused refusal)
+      by true is = undone_good (Refused refusal) (top_level mine.transaction) true (open_top names is) (omega arith)
+
+  -- A call: what it made, and the descriptors that it leaves.
+
+  abbrev made : List Deed → List (Edit Deed)
+  made deeds = and_made st s deeds
+
+  made_quiet : (deeds : List Deed) → StayQuiet n es (made deeds)
+  made_quiet deeds = quiet_made n s names es deeds
+
+  called_good : (granted : Granted) → (All (IsDescriptor (n + 1) (made granted.deeds) (top_level mine.transaction)) mine.descriptors → All (IsDescriptor (n + 1) (made granted.deeds) (top_level mine.transaction)) granted.descriptors) → IsGood st s (called st s granted)
+  called_good granted' leaves = left_good (made granted'.deeds) session (made_quiet granted'.deeds) past is
+    where
+      left : List Descriptor
+      left = kept_open (is_open mine.transaction) mine.descriptors granted'.descriptors
+
+      session : Session
+      session = with_descriptors left mine
+
+      past : All (IsPast (n + 1) (with_session_at s session sessions)) (made granted'.deeds)
+      past =
+          All-append (IsPast (n + 1) (with_session_at s session sessions)) es (edits_by n (owner_in n s names) granted'.deeds)
+          (past_kept n s sessions session es (omega arith) well.well.past)
+          (past_made n s (with_session_at s session sessions) names granted'.deeds (ap (λ (one : Session). one.transaction.levels) (sym (own_session s session sessions))))
+
+      before : All (IsDescriptor (n + 1) (made granted'.deeds) (top_level mine.transaction)) mine.descriptors
+      before = all_described_later n es (made granted'.deeds) (length names) (length names) (made_quiet granted'.deeds) (omega arith) mine.descriptors own.descriptors
+
+      left_described : (inside : Bool) → All (IsDescriptor (n + 1) (made granted'.deeds) (top_level mine.transaction)) (kept_open inside mine.descriptors granted'.descriptors)
+      left_described false = before
+      left_described true = leaves before
+
+      is : IsSession (n + 1) (made granted'.deeds) session
+      is = record {
+        first = own.first;
+        descriptors = left_described (is_open mine.transaction);
+        none = λ empty. ap (λ (levels : List (Option (List ℕ))). kept_open (has_levels levels) mine.descriptors granted'.descriptors) empty ∙ own.none empty;
+        unfailed = own.unfailed;
+        cursors = own.cursors;
+      }
+
+  abbrev described : (deeds : List Deed) → Descriptor → Type 0
+  described deeds d = IsDescriptor (n + 1) (made deeds) (top_level mine.transaction) d
+
+  -- a descriptor at another position, and one that is opened
+  moves : (deeds : List Deed) (d : Descriptor) (number position : ℕ) → IsDescriptor (n + 1) (made deeds) (top_level mine.transaction) d → IsDescriptor (n + 1) (made deeds) (top_level mine.transaction) (moved_to number position d)
+  moves deeds d number position is = by (d.number == number)
+    where
+      by : (b : Bool) → IsDescriptor (n + 1) (made deeds) (top_level mine.transaction) (if b then record { number = d.number; oid = d.oid; position = position; level = d.level; reading = d.reading } else d)
+      by true = record { level = is.level; quiet = is.quiet }
+      by false = is
+
+  opens : (o : ℕ) (mode : ℤ) → IsDescriptor (n + 1) (made []) (top_level mine.transaction) (opened_by (here st s) o mode)
+  opens o mode = record { level = omega arith; quiet = by (may_write mode) }
+    where
+      by : (b : Bool) → IsQuiet (n + 1) (made []) (if b then Current else Kept n)
+      by true = tt
+      by false = (omega arith, All-append (IsQuietAt n) es [] (quiet_now n sessions es well.well.past) (All-nil (IsQuietAt n)))
+
+  -- No term of a refusal holds.
+
+  inside : (rest : List (Option Refusal)) → first_of (no_block st s ∷ rest) ≡ None → 1 ≤ length names
+  inside rest none = open_top names (by (is_open mine.transaction) refl)
+    where
+      by : (b : Bool) → is_open mine.transaction ≡ b → is_open mine.transaction ≡ true
+      by true is = is
+      by false is = absurd (true≢false (ap not (sym is) ∙ unmet (not (is_open mine.transaction)) NoBlock (pos 0) (first_none (no_block st s) rest none).0))
+
+  named : (P : Option ℕ → Type 0) (name : List ℕ) → first_of (no_block st s ∷ no_savepoint st s name ∷ []) ≡ None → ((k : ℕ) → 2 ≤ k → k ≤ length names → P (Some k)) → P (level_named st s name)
+  named P name none each = by (level_named st s name) refl
+    where
+      there : is_none (level_named st s name) ≡ false
+      there = unmet (is_none (level_named st s name)) NoSavepoint (pos 0) (first_none (no_savepoint st s name) [] (first_none (no_block st s) (no_savepoint st s name ∷ []) none).1).0
+
+      by : (found : Option ℕ) → level_named st s name ≡ found → P found
+      by None is = absurd (true≢false (ap is_none (sym is) ∙ there))
+      by (Some k) is = let bounds = newest_bounds name names k own.first is in each k bounds.0 bounds.1
+
+  all_good : (r : Request) → is_served r ≡ true → first_of (refusals st s r) ≡ None → IsGood st s (granted st s r)
+  all_good Begin served none = begun_good (is_open mine.transaction) refl
+  all_good Commit served none = committed_in_good (is_open mine.transaction) mine.transaction.failed
+  all_good Rollback served none = rolled_back_good (is_open mine.transaction)
+  all_good (Savepoint name) served none = saved_good (Word words.Savepoint) name (inside [] none)
+  all_good (Release name) served none = named (λ found. IsGood st s (released_to st s (level_or_0 found))) name none (λ k low high. released_good (Word words.Release) k low high)
+  all_good (RollbackTo name) served none = named (λ found. IsGood st s (undone_to st s (level_or_0 found))) name none (λ k low high. undone_good (Word words.Rollback) k false (omega (arith, low)) high)
+  all_good (LoCreat mode) served none = called_good (create_row 0 [] (here st s)).granted (λ all. all)
+  all_good (LoCreate o) served none = called_good (create_row o [] (here st s)).granted (λ all. all)
+  all_good (LoOpen o mode) served none = called_good (open_row o mode (here st s)).granted (λ all. open_leaves (described []) (here st s) all o mode (opens o mode))
+  all_good (LoClose fd) served none = called_good (close_row fd (here st s)).granted (λ all. close_leaves (described []) (here st s) all fd)
+  all_good (LoRead fd count) served none = called_good (read_row fd count (here st s)).granted (λ all. read_leaves (described (read_row fd count (here st s)).granted.deeds) (here st s) all (moves (read_row fd count (here st s)).granted.deeds) fd count)
+  all_good (LoWrite fd bytes) served none = called_good (write_row fd bytes (here st s)).granted (λ all. write_leaves (described (write_row fd bytes (here st s)).granted.deeds) (here st s) all (moves (write_row fd bytes (here st s)).granted.deeds) fd bytes)
+  all_good (LoLseek fd offset whence) served none = called_good (seek_row false fd offset whence (here st s)).granted (λ all. seek_leaves (described (seek_row false fd offset whence (here st s)).granted.deeds) (here st s) all (moves (seek_row false fd offset whence (here st s)).granted.deeds) false fd offset whence)
+  all_good (LoLseek64 fd offset whence) served none = called_good (seek_row true fd offset whence (here st s)).granted (λ all. seek_leaves (described (seek_row true fd offset whence (here st s)).granted.deeds) (here st s) all (moves (seek_row true fd offset whence (here st s)).granted.deeds) true fd offset whence)
+  all_good (LoTell fd) served none = called_good (tell_row false fd (here st s)).granted (λ all. tell_leaves (described (tell_row false fd (here st s)).granted.deeds) (here st s) all false fd)
+  all_good (LoTell64 fd) served none = called_good (tell_row true fd (here st s)).granted (λ all. tell_leaves (described (tell_row true fd (here st s)).granted.deeds) (here st s) all true fd)
+  all_good (LoTruncate fd size) served none = called_good (truncate_row fd size (here st s)).granted (λ all. truncate_leaves (described (truncate_row fd size (here st s)).granted.deeds) (here st s) all fd size)
+  all_good (LoTruncate64 fd size) served none = called_good (truncate_row fd size (here st s)).granted (λ all. truncate_leaves (described (truncate_row fd size (here st s)).granted.deeds) (here st s) all fd size)
+  all_good (LoUnlink o) served none = called_good (unlink_row o (here st s)).granted (λ all. unlink_leaves (described (unlink_row o (here st s)).granted.deeds) (here st s) all o)
+  all_good (LoGet o from count) served none = called_good (get_row o from count (here st s)).granted (λ all. all)
+  all_good (LoPut o at bytes) served none = called_good (put_row o at bytes (here st s)).granted (λ all. all)
+  all_good (LoFromBytea o bytes) served none = called_good (create_row o bytes (here st s)).granted (λ all. all)
+  all_good Vacuum served none = answered_good (Word words.Vacuum)
+  all_good r served none = absurd (false≢true served)
+
+  -- granted or refused
+  outcome_good : (r : Request) → is_served r ≡ true → IsGood st s (granted_or_refused st s r (refusal_of st s r))
+  outcome_good r served = by (refusal_of st s r) refl
+    where
+      by : (refusal : Option Refusal) → refusal_of st s r ≡ refusal → IsGood st s (granted_or_refused st s r refusal)
+      by None is = all_good r served (first_none (failed st s r) (refusals st s r) is).1
+      by (Some refusal) is = refused_good refusal
+
+-- A clean-up alone is told of its act, and those are not served.
+pub untold : (st : State) (s : ℕ) (r : Request) (refused : Bool) (done : Outcome) → is_served r ≡ true → told_sweep st s r refused done ≡ done
+untold st s Step refused done served = absurd (false≢true served)
+untold st s Finish refused done served = absurd (false≢true served)
+untold st s r refused done served = refl
+
+pub well_after : (st : State) (s : ℕ) (r : Request) → is_served r ≡ true → IsWell st → IsWell (state_after st s r)
+well_after st s r served well =
+    subst (λ (done : Outcome). IsWell (state_with st s done)) (sym (untold st s r (is_some (refusal_of st s r)) (granted_or_refused st s r (refusal_of st s r)) served))
+    (well_with st s (granted_or_refused st s r (refusal_of st s r)) well (outcome_good st s well r served))

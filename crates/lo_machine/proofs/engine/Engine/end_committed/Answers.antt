@@ -1,0 +1,20 @@
+use Rattle.std.proofs.Common.{false, refl}
+use Rattle.lo_machine.proofs.LevelEnds.{held_at, moves_at, committed_sound, committed_becomes}
+use Rattle.lo_machine.proofs.engine.Engine.end_committed.Goals as goal
+
+pub end_all-requires : goal.end_all-requires
+end_all-requires c = record { held = held_at c.args.s c.place.result c.args.self.now c.index_mut.result.now c.requires.sound c.place.ensures.place c.place.ensures.within c.index_mut.ensures.value }
+
+pub returns-clause-sound : goal.returns-clause-sound
+returns-clause-sound c =
+    let old = c.args.self.now in
+    committed_sound c.args.s false old _ c.requires.sound
+    (moves_at c.args.s c.place.result c.place-2.result false old _ c.index_mut.result.now c.end_all.new.self c.requires.sound c.place.ensures.place c.place.ensures.within c.index_mut.ensures.value c.place-2.ensures.place refl refl refl)
+    c.end_all.new.xacts c.end_all.ensures.ends c.requires.open c.commit.ensures.ends c.commit.ensures.undos refl
+
+pub returns-clause-becomes : goal.returns-clause-becomes
+returns-clause-becomes c =
+    let old = c.args.self.now in
+    committed_becomes c.args.s false old _ c.requires.sound
+    (moves_at c.args.s c.place.result c.place-2.result false old _ c.index_mut.result.now c.end_all.new.self c.requires.sound c.place.ensures.place c.place.ensures.within c.index_mut.ensures.value c.place-2.ensures.place refl refl refl)
+    c.end_all.new.xacts c.end_all.ensures.ends c.requires.open c.commit.ensures.ends c.commit.ensures.undos refl c.end_all.ensures.descriptors

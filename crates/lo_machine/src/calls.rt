@@ -1,0 +1,208 @@
+// The requests on large objects. One that writes is done in a level of its own, which is merged into the session's top level
+// once it was done, and undone where it was not. Outside a block each is a transaction of its own.
+ghost use Rattle.std.specs.Prelude.{◌≡◌, ◌<◌, ◌-◌, length, slice_index_or, true, false, [], IfOk, OnErr};
+ghost use Rattle.lo_machine.specs.CallRow.{call_row, reads, writes, is_call};
+ghost use Rattle.lo_machine.specs.Dispatch.{CanCall, AnswersCall, ReadsCall, AnswersInBlock};
+ghost use Rattle.lo_machine.specs.Engine.{names_in, IsEngine, Does, Undone, HasRoom};
+ghost use Rattle.lo_machine.specs.Served.{IsServed};
+ghost use Rattle.lo_machine.specs.Step.{tried};
+
+use crate::engine::Engine;
+use lo_base::{Denied, Name, NoMemory, Reply, Request, SessionNo};
+
+/// The name of the level in which a request writes. It is gone before the next request.
+const OWN_LEVEL: &[u8] = b"request";
+
+impl Engine {
+    /// A request on large objects.
+    pub(crate) fn call(&mut self, s: SessionNo, request: &Request) -> Result<Reply, NoMemory>
+        requires sound { IsEngine self.old }
+        requires room { HasRoom self.old }
+        requires served { IsServed request.now }
+        requires call { is_call request.now ≡ true }
+        requires unfailed { slice_index_or self.old.failed.items (s - 1) false ≡ false }
+        ensures sound { IsEngine self.new }
+        ensures ok { IfOk result (Does self.old self.new s (λ st. tried st s request.now)) }
+        ensures err { OnErr result (Undone self.old self.new) }
+    {
+        if self.is_open(s) {
+            self.call_in_block(s, request)
+        } else {
+            self.call_alone(s, request)
+        }
+    }
+
+    /// A request outside a block, in a transaction of its own.
+    fn call_alone(&mut self, s: SessionNo, request: &Request) -> Result<Reply, NoMemory>
+        requires sound { IsEngine self.old }
+        requires room { HasRoom self.old }
+        requires served { IsServed request.now }
+        requires call { is_call request.now ≡ true }
+        requires none { names_in self.old s ≡ [] }
+        ensures sound { IsEngine self.new }
+        ensures ok { IfOk result (Does self.old self.new s (λ st. tried st s request.now)) }
+        ensures err { OnErr result (Undone self.old self.new) }
+    {
+        // Numbers of sessions are from 1 to 16.
+        let _ = s.number();
+        let Ok(()) = self.open(s) else {
+            return Err(NoMemory);
+        };
+        match self.do_call(s, request) {
+            Ok(reply) => {
+                self.end_committed(s);
+                Ok(reply)
+            }
+            Err(Denied::By(refusal)) => {
+                self.end_aborted(s);
+                Ok(Reply::Refused(refusal))
+            }
+            Err(Denied::NoMemory) => {
+                self.end_aborted(s);
+                Err(NoMemory)
+            }
+        }
+    }
+
+    /// A request in a block.
+    fn call_in_block(&mut self, s: SessionNo, request: &Request) -> Result<Reply, NoMemory>
+        requires sound { IsEngine self.old }
+        requires room { HasRoom self.old }
+        requires served { IsServed request.now }
+        requires call { is_call request.now ≡ true }
+        requires unfailed { slice_index_or self.old.failed.items (s - 1) false ≡ false }
+        requires open { 0 < length (names_in self.old s) }
+        ensures sound { IsEngine self.new }
+        ensures ok { IfOk result (Does self.old self.new s (λ st. tried st s request.now)) }
+        ensures err { OnErr result (Undone self.old self.new) }
+    {
+        match self.try_in_block(s, request) {
+            Ok(reply) => Ok(reply),
+            Err(Denied::By(refusal)) => Ok(self.refuse_by(s, refusal)),
+            Err(Denied::NoMemory) => Err(NoMemory),
+        }
+    }
+
+    /// A request in a block, which stays as it is where the request is refused.
+    fn try_in_block(&mut self, s: SessionNo, request: &Request) -> Result<Reply, Denied>
+        requires sound { IsEngine self.old }
+        requires room { HasRoom self.old }
+        requires served { IsServed request.now }
+        requires call { is_call request.now ≡ true }
+        requires unfailed { slice_index_or self.old.failed.items (s - 1) false ≡ false }
+        requires open { 0 < length (names_in self.old s) }
+        ensures { AnswersInBlock s request.now self.old self.new result }
+    {
+        // Numbers of sessions are from 1 to 16.
+        let _ = s.number();
+        if is_writing(request) {
+            self.call_in_level(s, request)
+        } else {
+            self.look_at_objects(s, request)
+        }
+    }
+
+    /// A request that writes, in a level of its own.
+    fn call_in_level(&mut self, s: SessionNo, request: &Request) -> Result<Reply, Denied>
+        requires sound { IsEngine self.old }
+        requires room { HasRoom self.old }
+        requires served { IsServed request.now }
+        requires writes { writes request.now ≡ true }
+        requires unfailed { slice_index_or self.old.failed.items (s - 1) false ≡ false }
+        requires open { 0 < length (names_in self.old s) }
+        ensures { AnswersInBlock s request.now self.old self.new result }
+    {
+        // Numbers of sessions are from 1 to 16.
+        let _ = s.number();
+        let Ok(name) = Name::from_slice(self.alloc, OWN_LEVEL) else {
+            return Err(Denied::NoMemory);
+        };
+        let Ok(()) = self.save(s, name) else {
+            return Err(Denied::NoMemory);
+        };
+        let level = self.core.xacts.levels(s);
+        match self.change_objects(s, request) {
+            Ok(reply) => {
+                self.merge(s, level);
+                Ok(reply)
+            }
+            Err(denied) => {
+                self.undo(s, level, false);
+                self.merge(s, level);
+                Err(denied)
+            }
+        }
+    }
+
+    /// A request on large objects, in the session's transaction.
+    fn do_call(&mut self, s: SessionNo, request: &Request) -> Result<Reply, Denied>
+        requires can { CanCall s self.old }
+        requires served { IsServed request.now }
+        requires call { is_call request.now ≡ true }
+        ensures { AnswersCall s (call_row request.now) self.old self.new result }
+    {
+        if is_writing(request) {
+            self.change_objects(s, request)
+        } else {
+            self.look_at_objects(s, request)
+        }
+    }
+
+    /// A request that makes, writes, cuts or takes away an object.
+    fn change_objects(&mut self, s: SessionNo, request: &Request) -> Result<Reply, Denied>
+        requires can { CanCall s self.old }
+        requires served { IsServed request.now }
+        requires writes { writes request.now ≡ true }
+        ensures { AnswersCall s (call_row request.now) self.old self.new result }
+    {
+        match request {
+            Request::LoCreat(_mode) => self.create(s, 0),
+            Request::LoCreate(oid) => self.create(s, *oid),
+            Request::LoWrite(fd, bytes) => self.write(s, *fd, bytes.items()),
+            Request::LoTruncate(fd, size) => self.truncate(s, *fd, i64::from(*size)),
+            Request::LoTruncate64(fd, size) => self.truncate(s, *fd, *size),
+            Request::LoUnlink(oid) => self.unlink(s, *oid),
+            Request::LoPut(oid, at, bytes) => self.put(s, *oid, *at, bytes.items()),
+            Request::LoFromBytea(oid, bytes) => self.from_bytea(s, *oid, bytes.items()),
+            _ => unreachable!(),
+        }
+    }
+
+    /// A request that makes no edit.
+    fn look_at_objects(&mut self, s: SessionNo, request: &Request) -> Result<Reply, Denied>
+        requires can { CanCall s self.old }
+        requires reads { reads request.now ≡ true }
+        ensures { ReadsCall s (call_row request.now) self.old self.new result }
+    {
+        match request {
+            Request::LoOpen(oid, mode) => self.open_descriptor(s, *oid, *mode),
+            Request::LoClose(fd) => self.close(s, *fd),
+            Request::LoRead(fd, length) => self.read(s, *fd, *length),
+            Request::LoLseek(fd, offset, whence) => {
+                self.seek(s, *fd, i64::from(*offset), *whence, false)
+            }
+            Request::LoLseek64(fd, offset, whence) => self.seek(s, *fd, *offset, *whence, true),
+            Request::LoTell(fd) => self.tell(s, *fd, false),
+            Request::LoTell64(fd) => self.tell(s, *fd, true),
+            Request::LoGet(oid, from, length) => self.get(s, *oid, *from, *length),
+            _ => unreachable!(),
+        }
+    }
+}
+
+/// Whether a request may make edits.
+fn is_writing(request: &Request) -> bool
+    ensures { result ≡ writes request.now }
+{
+    matches!(
+        request,
+        Request::LoCreat(_)
+            | Request::LoCreate(_)
+            | Request::LoWrite(_, _)
+            | Request::LoTruncate(_, _)
+            | Request::LoTruncate64(_, _)
+            | Request::LoUnlink(_)
+            | Request::LoPut(_, _, _)
+            | Request::LoFromBytea(_, _)
+    )
+}
