@@ -1,7 +1,8 @@
 -- Lines and tokens: parts of a cut text.
-use Rattle.std.proofs.Common.{◌≡◌, ℕ, ◌+◌, ◌<◌, ◌==◌, Bool, Some, None, List, [], ◌∷◌, length, take, drop, get_or, not, true, false, ◌-◌, length-drop, refl, sym, ◌∙◌, arith}
+use Rattle.std.proofs.Common.{◌≡◌, ℕ, ◌+◌, ◌<◌, ◌≤◌, ◌==◌, Bool, Some, None, List, [], ◌∷◌, length, take, drop, get_or, not, true, false, ◌-◌, length-drop, refl, sym, ◌∙◌, arith}
 use Rattle.std.specs.Prelude.{Option, IsTrue}
 use Rattle.std.specs.Option.{is_some, option_map_or}
+use Rattle.std.specs.Borrow.{Bor}
 use Rattle.std.specs.List.{slice_split, position, position_or_len}
 use Rattle.std.specs.Str.Lines.{lines, lines_of_parts, strip_carriage_return}
 use Rattle.std.proofs.lemmas.List.Splits.{length-slice_split, slice_split_first, slice_split_none}
@@ -10,6 +11,7 @@ use Rattle.std.proofs.lemmas.List.Sums.{position_or_len_is, fails_before_first}
 use Rattle.std.proofs.lemmas.List.Elements.{All-from_get_or}
 use Rattle.std.proofs.lemmas.List.{take_all}
 use Rattle.std.proofs.lemmas.Bool.Decides.{nat_tests}
+use Rattle.lo_script.specs.Token.{column_after, length_left, pieces_of, pieces_left, rest_of}
 
 -- a cut gives one part or more
 pub slice_split-some : {X : Type 0} (p : X → Bool) (xs : List X) → 0 < length (slice_split p xs)
@@ -55,3 +57,15 @@ no_rest tokens None left true some is h = (λ _. sym is, λ _. refl)
 no_rest tokens None left false some is h = cc h
 no_rest tokens (Some a) left true some is h = cc h
 no_rest tokens (Some a) left false some is h = (λ e. cc e, λ none. absurd (some a (is ∙ none)))
+
+-- the column after a token that others follow
+after_token : (column : ℕ) (token : List ℕ) (others : List (List ℕ)) → 0 < length others → column_after column token others ≡ column + length token + 1
+after_token column token [] some = absurd (omega (arith, some))
+after_token column token (next ∷ others) some = refl
+
+-- where the rest of a line was cut, the column is that after the token before the cut
+pub cut_column : (line rest token : List ℕ) (after : Option (Bor (List ℕ))) → length rest ≤ length line → length token + length_left after ≡ length rest → (rest_of line after).column ≡ column_after (length line - length rest + 1) token (pieces_left 32 after)
+cut_column line rest token None within whole = omega (arith, within, whole)
+cut_column line rest token (Some r) within whole =
+    let next = after_token (length line - length rest + 1) token (pieces_of 32 r.now) (slice_split-some (λ b. b == 32) r.now) in
+    omega (arith, within, whole, next)

@@ -2,16 +2,17 @@
 use Rattle.std.proofs.Common.{◌≡◌, refl, pos, negsuc, List, [], ◌∷◌, ◌++◌, Some, None, replicate}
 use Rattle.std.specs.Prelude.{codes}
 use Rattle.std.specs.Fmt.{digits}
+use Rattle.std.proofs.lemmas.List.Elements.{All-nil, All-cons}
 use Rattle.hex.specs.Hex.{encode_with, decode_pairs}
 use Rattle.lo_base.specs.declared.refusal.Cause.TheVariants.{NoObject, ObjectExists}
 use Rattle.lo_base.specs.declared.reply.Reply.TheVariants.{Word, Number, Content, Nothing, Row, Ids, Text, Counted, Stopped, Refused}
 use Rattle.lo_base.specs.declared.reply.Word.TheVariants as words
 use Rattle.lo_base.specs.declared.value.Cell.TheVariants as cells
 use Rattle.lo_base.specs.declared.request.Request.{Request}
-use Rattle.lo_base.specs.declared.request.Request.TheVariants.{Begin, Commit, Rollback, Savepoint, Release, RollbackTo, LoCreate, LoPut, LoGet, Vacuum}
-use Rattle.lo_script.specs.Token.{decimal_of, bytes_of, name_of, session_of}
-use Rattle.lo_script.specs.Form.{request_of}
-use Rattle.lo_script.specs.Script.{script_of, script_with, entry_of}
+use Rattle.lo_base.specs.declared.request.Request.TheVariants.{Begin, Commit, Rollback, Savepoint, Release, RollbackTo, LoCreat, LoCreate, LoOpen, LoClose, LoRead, LoWrite, LoLseek, LoLseek64, LoTell, LoTell64, LoTruncate, LoTruncate64, LoUnlink, LoGet, LoPut, LoFromBytea, Vacuum}
+use Rattle.lo_script.specs.Reading.{Read, BadAt}
+use Rattle.lo_script.specs.Token.{int8_of, int4_of, oid_of, bytes_of, name_of, session_of}
+use Rattle.lo_script.specs.Script.{script_of, script_with, entry_of, IsAllowed, IsFirstBad}
 use Rattle.lo_script.specs.ReplyText.{text_of, line_of, lines_of}
 
 -- the programs of session 1 and of fifteen sessions with no line
@@ -56,58 +57,61 @@ second_return = refl
 
 -- Lines
 
-two_spaces : entry_of (codes "A:  lo_get 5") ≡ None
+two_spaces : entry_of (codes "A:  lo_get 5") ≡ BadAt 4
 unfolding digits
 two_spaces = refl
 
-space_at_the_end : entry_of (codes "A: lo_get 5 ") ≡ None
+space_at_the_end : entry_of (codes "A: lo_get 5 ") ≡ BadAt 13
 unfolding digits
 space_at_the_end = refl
 
-space_at_the_front : entry_of (codes " A: lo_get 5") ≡ None
+space_at_the_front : entry_of (codes " A: lo_get 5") ≡ BadAt 1
 space_at_the_front = refl
 
-second_session : entry_of (codes "B: commit") ≡ Some (2, Commit)
+second_session : entry_of (codes "B: commit") ≡ Read (2, Commit)
 second_session = refl
 
-seventeenth_letter : entry_of (codes "Q: begin") ≡ None
+seventeenth_letter : entry_of (codes "Q: begin") ≡ BadAt 1
 seventeenth_letter = refl
 
-before_the_first_letter : entry_of (codes "@: begin") ≡ None
+before_the_first_letter : entry_of (codes "@: begin") ≡ BadAt 1
 before_the_first_letter = refl
 
-two_letters : entry_of (codes "AA: begin") ≡ None
+two_letters : entry_of (codes "AA: begin") ≡ BadAt 1
 two_letters = refl
 
-no_session : entry_of (codes "lo_get 5") ≡ None
+no_session : entry_of (codes "lo_get 5") ≡ BadAt 1
 no_session = refl
 
-no_word : entry_of (codes "A:") ≡ None
+no_word : entry_of (codes "A:") ≡ BadAt 3
 no_word = refl
 
-unknown_word : entry_of (codes "A: lo_creat 5") ≡ None
+unknown_word : entry_of (codes "A: lo_greet 5") ≡ BadAt 4
 unknown_word = refl
 
-rolled_back : entry_of (codes "A: rollback") ≡ Some (1, Rollback)
+unknown_other_word : entry_of (codes "A: create 5") ≡ BadAt 4
+unknown_other_word = refl
+
+rolled_back : entry_of (codes "A: rollback") ≡ Read (1, Rollback)
 rolled_back = refl
 
 -- `to` can be a savepoint's name
-rolled_back_to : entry_of (codes "A: rollback to to") ≡ Some (1, RollbackTo (codes "to"))
+rolled_back_to : entry_of (codes "A: rollback to to") ≡ Read (1, RollbackTo (codes "to"))
 rolled_back_to = refl
 
-rolled_back_elsewhere : entry_of (codes "A: rollback s") ≡ None
+rolled_back_elsewhere : entry_of (codes "A: rollback s") ≡ BadAt 13
 rolled_back_elsewhere = refl
 
-rolled_back_to_nothing : entry_of (codes "A: rollback to") ≡ None
+rolled_back_to_nothing : entry_of (codes "A: rollback to") ≡ BadAt 15
 rolled_back_to_nothing = refl
 
-rolled_back_to_two : entry_of (codes "A: rollback to s t") ≡ None
+rolled_back_to_two : entry_of (codes "A: rollback to s t") ≡ BadAt 18
 rolled_back_to_two = refl
 
-released : entry_of (codes "C: release _1") ≡ Some (3, Release (codes "_1"))
+released : entry_of (codes "C: release _1") ≡ Read (3, Release (codes "_1"))
 released = refl
 
-block_of_a_kind : entry_of (codes "A: begin repeatable read") ≡ None
+block_of_a_kind : entry_of (codes "A: begin repeatable read") ≡ BadAt 10
 block_of_a_kind = refl
 
 -- Tokens
@@ -130,23 +134,35 @@ digit_first = refl
 no_name : name_of [] ≡ None
 no_name = refl
 
-zero_token : decimal_of (codes "0") ≡ Some 0
+zero_token : int8_of (codes "0") ≡ Some (pos 0)
 unfolding digits
 zero_token = refl
 
-leading_zero : decimal_of (codes "05") ≡ None
+leading_zero : int8_of (codes "05") ≡ None
 unfolding digits
 leading_zero = refl
 
-plus_sign : decimal_of (codes "+5") ≡ None
+plus_sign : int8_of (codes "+5") ≡ None
 unfolding digits
 plus_sign = refl
 
-no_digits : decimal_of [] ≡ None
+minus_sign : int8_of (codes "-5") ≡ Some (negsuc 4)
+unfolding digits
+minus_sign = refl
+
+minus_before_zero : int8_of (codes "-0") ≡ None
+unfolding digits
+minus_before_zero = refl
+
+minus_alone : int8_of (codes "-") ≡ None
+unfolding digits
+minus_alone = refl
+
+no_digits : int8_of [] ≡ None
 unfolding digits
 no_digits = refl
 
-letters : decimal_of (codes "5a") ≡ None
+letters : int8_of (codes "5a") ≡ None
 unfolding digits
 letters = refl
 
@@ -175,29 +191,154 @@ too_many_bytes = refl
 
 -- Ranges
 
-least_created : request_of (codes "lo_create" ∷ codes "0" ∷ []) ≡ None
+least_int4 : int4_of (codes "-2147483648") ≡ Some (negsuc 2147483647)
 unfolding digits
-least_created = refl
+least_int4 = refl
 
-greatest_created : request_of (codes "lo_create" ∷ codes "4294967295" ∷ []) ≡ Some (LoCreate 4294967295)
+below_int4 : int4_of (codes "-2147483649") ≡ None
 unfolding digits
-greatest_created = refl
+below_int4 = refl
 
-above_the_greatest : request_of (codes "lo_create" ∷ codes "4294967296" ∷ []) ≡ None
+greatest_int4 : int4_of (codes "2147483647") ≡ Some (pos 2147483647)
 unfolding digits
-above_the_greatest = refl
+greatest_int4 = refl
 
-farthest_put : request_of (codes "lo_put" ∷ codes "0" ∷ codes "8388608" ∷ codes "\\x" ∷ []) ≡ Some (LoPut 0 (pos 8388608) [])
+above_int4 : int4_of (codes "2147483648") ≡ None
+unfolding digits
+above_int4 = refl
+
+least_int8 : int8_of (codes "-9223372036854775808") ≡ Some (negsuc 9223372036854775807)
+unfolding digits
+least_int8 = refl
+
+below_int8 : int8_of (codes "-9223372036854775809") ≡ None
+unfolding digits
+below_int8 = refl
+
+greatest_int8 : int8_of (codes "9223372036854775807") ≡ Some (pos 9223372036854775807)
+unfolding digits
+greatest_int8 = refl
+
+above_int8 : int8_of (codes "9223372036854775808") ≡ None
+unfolding digits
+above_int8 = refl
+
+least_oid : oid_of (codes "0") ≡ Some 0
+unfolding digits
+least_oid = refl
+
+below_oid : oid_of (codes "-1") ≡ None
+unfolding digits
+below_oid = refl
+
+greatest_oid : oid_of (codes "4294967295") ≡ Some 4294967295
+unfolding digits
+greatest_oid = refl
+
+above_oid : oid_of (codes "4294967296") ≡ None
+unfolding digits
+above_oid = refl
+
+-- Forms on large objects
+
+read_creat : entry_of (codes "A: lo_creat -1") ≡ Read (1, LoCreat (negsuc 0))
+unfolding digits
+read_creat = refl
+
+read_create : entry_of (codes "A: lo_create 0") ≡ Read (1, LoCreate 0)
+unfolding digits
+read_create = refl
+
+read_open : entry_of (codes "A: lo_open 5 262144") ≡ Read (1, LoOpen 5 (pos 262144))
+unfolding digits
+read_open = refl
+
+read_close : entry_of (codes "A: lo_close 0") ≡ Read (1, LoClose (pos 0))
+unfolding digits
+read_close = refl
+
+read_read : entry_of (codes "A: lo_read 0 -1") ≡ Read (1, LoRead (pos 0) (negsuc 0))
+unfolding digits
+read_read = refl
+
+read_write : entry_of (codes "A: lo_write 3 \\x41") ≡ Read (1, LoWrite (pos 3) (65 ∷ []))
 unfolding digits decode_pairs
-farthest_put = refl
+read_write = refl
 
-too_far : request_of (codes "lo_put" ∷ codes "0" ∷ codes "8388609" ∷ codes "\\x" ∷ []) ≡ None
+read_lseek : entry_of (codes "A: lo_lseek 0 -7 2") ≡ Read (1, LoLseek (pos 0) (negsuc 6) (pos 2))
 unfolding digits
-too_far = refl
+read_lseek = refl
 
-long_form : request_of (codes "lo_get" ∷ codes "5" ∷ codes "1" ∷ codes "2" ∷ []) ≡ None
+read_lseek64 : entry_of (codes "A: lo_lseek64 0 4398046511103 0") ≡ Read (1, LoLseek64 (pos 0) (pos 4398046511103) (pos 0))
 unfolding digits
-long_form = refl
+read_lseek64 = refl
+
+read_tell : entry_of (codes "A: lo_tell 1") ≡ Read (1, LoTell (pos 1))
+unfolding digits
+read_tell = refl
+
+read_tell64 : entry_of (codes "A: lo_tell64 1") ≡ Read (1, LoTell64 (pos 1))
+unfolding digits
+read_tell64 = refl
+
+read_truncate : entry_of (codes "A: lo_truncate 0 9") ≡ Read (1, LoTruncate (pos 0) (pos 9))
+unfolding digits
+read_truncate = refl
+
+read_truncate64 : entry_of (codes "A: lo_truncate64 0 4398046511104") ≡ Read (1, LoTruncate64 (pos 0) (pos 4398046511104))
+unfolding digits
+read_truncate64 = refl
+
+read_unlink : entry_of (codes "A: lo_unlink 5") ≡ Read (1, LoUnlink 5)
+unfolding digits
+read_unlink = refl
+
+read_get : entry_of (codes "A: lo_get 5") ≡ Read (1, LoGet 5 (pos 0) None)
+unfolding digits
+read_get = refl
+
+read_part : entry_of (codes "A: lo_get 5 1 2") ≡ Read (1, LoGet 5 (pos 1) (Some (pos 2)))
+unfolding digits
+read_part = refl
+
+read_put : entry_of (codes "A: lo_put 0 -1 \\x") ≡ Read (1, LoPut 0 (negsuc 0) [])
+unfolding digits decode_pairs
+read_put = refl
+
+read_from_bytea : entry_of (codes "A: lo_from_bytea 5 \\xAb") ≡ Read (1, LoFromBytea 5 (171 ∷ []))
+unfolding digits decode_pairs
+read_from_bytea = refl
+
+-- a part has an offset and a length
+part_without_length : entry_of (codes "A: lo_get 5 1") ≡ BadAt 14
+unfolding digits
+part_without_length = refl
+
+third_argument_missing : entry_of (codes "A: lo_lseek 0 0") ≡ BadAt 16
+unfolding digits
+third_argument_missing = refl
+
+fourth_argument : entry_of (codes "A: lo_lseek 0 0 0 0") ≡ BadAt 19
+unfolding digits
+fourth_argument = refl
+
+second_argument_wrong : entry_of (codes "A: lo_lseek 0 00 0") ≡ BadAt 15
+unfolding digits
+second_argument_wrong = refl
+
+-- the second line is skipped, and the third lacks a token
+first_bad_line : IsFirstBad (codes "A: lo_get 5\n#\nA: lo_get\nB:\n") 3 10
+unfolding digits
+first_bad_line = record {
+  before = codes "A: lo_get 5" ∷ codes "#" ∷ [];
+  line = codes "A: lo_get";
+  after = codes "B:" ∷ [];
+  split = refl;
+  counted = refl;
+  allowed = All-cons IsAllowed (codes "A: lo_get 5") (codes "#" ∷ []) (λ _. refl) (All-cons IsAllowed (codes "#") [] (λ e. cc e) (All-nil IsAllowed));
+  request = refl;
+  bad = refl;
+}
 
 -- Replies
 

@@ -1,6 +1,6 @@
 -- The order of a script names each session once for each line of its program.
-use Rattle.std.proofs.Common.{◌≡◌, ◌≢◌, ℕ, ◌+◌, ◌-◌, ◌≤◌, ◌==◌, List, [], ◌∷◌, ◌++◌, length, replicate, Some, refl, ap, ◌∙◌, inl, inr, cond, arith, length-append, length-set, subst}
-use Rattle.std.specs.Prelude.{All, count_by, option_map, slice_set, filter, nat_lt}
+use Rattle.std.proofs.Common.{◌≡◌, ◌≢◌, ℕ, ◌+◌, ◌-◌, ◌≤◌, ◌==◌, List, [], ◌∷◌, ◌++◌, length, replicate, Some, None, refl, ap, ◌∙◌, inl, inr, cond, arith, length-append, length-set, subst}
+use Rattle.std.specs.Prelude.{All, count_by, Option, option_map, slice_set, filter, nat_lt}
 use Rattle.std.specs.Str.Lines.{lines}
 use Rattle.std.proofs.lemmas.Bool.{cases_eq}
 use Rattle.std.proofs.lemmas.Bool.Decides.{nat_tests}
@@ -10,11 +10,12 @@ use Rattle.std.proofs.lemmas.List.Elements.{All-nil, All-cons, All-head, All-tai
 use Rattle.lo_base.specs.declared.request.Request.{Request}
 use Rattle.lo_machine.specs.Program.{program_of}
 use Rattle.lo_machine.specs.Run.{IsOrderOf}
-use Rattle.lo_script.specs.Token.{session_of, tokens_of}
+use Rattle.lo_script.specs.Token.{column_after, session_of, tokens_of}
 use Rattle.lo_script.specs.Form.{request_of}
-use Rattle.lo_script.specs.Script.{ScriptText, script_with, entry_of, all_of, with_entry, with_entries, script_of, is_request_line}
-use Rattle.lo_script.proofs.DecimalsAndBytes.{tested, some_injective}
-use Rattle.lo_script.proofs.SpelledRequests.{first_token-some, map-some, and_then-some}
+use Rattle.lo_script.specs.Reading.{Read}
+use Rattle.lo_script.specs.Script.{ScriptText, script_with, entry_of, entry_in, request_by, all_of, with_entry, with_entries, script_of, is_request_line}
+use Rattle.lo_script.proofs.DecimalsAndBytes.{tested, some_injective, and_then-some}
+use Rattle.lo_script.proofs.SpelledRequests.{first_token-some, read_and-some, read_injective, value_of-some}
 use Rattle.lo_script.proofs.MarksAndNames.{session-some}
 
 abbrev Entry : Type 0
@@ -83,24 +84,28 @@ nothing_ordered : IsOrdered (script_with (replicate 16 []) [])
 nothing_ordered = record { sixteen = refl; sessions = All-nil (λ session. 1 ≤ session); counted = λ session low. ap (λ (program : List Request). length program) (no_lines session) }
 
 -- the session of a line that was read
-entry-session : (line : List ℕ) (entry : Entry) → entry_of line ≡ Some entry → IsSession entry
+entry-session : (line : List ℕ) (entry : Entry) → entry_of line ≡ Read entry → IsSession entry
 entry-session line entry h =
-    let f = first_token-some session_of (λ session tokens. option_map (λ request. (session, request)) (request_of tokens)) (tokens_of line) entry h in
-    let m = map-some (λ request. (f.a, request)) (request_of f.more) entry f.left in
-    subst IsSession m.2 (session-some f.token f.a f.spells)
+    let f = first_token-some session_of request_by 1 (tokens_of line) entry h in
+    let m = read_and-some (λ request. Read (f.a, request)) (request_of (column_after 1 f.token f.more) f.more) entry f.left in
+    subst IsSession (read_injective (f.a, m.0) entry m.2) (session-some f.token f.a f.spells)
 
-entries-sessions : (added : List (List ℕ)) (entries : List Entry) → all_of entry_of added ≡ Some entries → All IsSession entries
+map-some : {A B : Type 0} (f : A → B) (o : Option A) (b : B) → option_map f o ≡ Some b → (a : A) × (o ≡ Some a) × (f a ≡ b)
+map-some f None b h = cc h
+map-some f (Some a) b h = (a, refl, some_injective (f a) b h)
+
+entries-sessions : (added : List (List ℕ)) (entries : List Entry) → all_of entry_in added ≡ Some entries → All IsSession entries
 entries-sessions [] entries h = subst (All IsSession) (some_injective [] entries h) (All-nil IsSession)
 entries-sessions (line ∷ added) entries h =
-    let first = and_then-some (λ b. option_map (λ bs. b ∷ bs) (all_of entry_of added)) (entry_of line) entries h in
-    let more = map-some (λ bs. first.0 ∷ bs) (all_of entry_of added) entries first.2 in
-    subst (All IsSession) more.2 (All-cons IsSession first.0 more.0 (entry-session line first.0 first.1) (entries-sessions added more.0 more.1))
+    let first = and_then-some (λ b. option_map (λ bs. b ∷ bs) (all_of entry_in added)) (entry_in line) entries h in
+    let more = map-some (λ bs. first.0 ∷ bs) (all_of entry_in added) entries first.2 in
+    subst (All IsSession) more.2 (All-cons IsSession first.0 more.0 (entry-session line first.0 (value_of-some (entry_of line) first.0 first.1)) (entries-sessions added more.0 more.1))
 
 order_of : {script : ScriptText} → IsOrdered script → IsOrderOf script.programs script.order
 order_of h = record { sessions = h.sessions; lines = h.counted }
 
 pub script-ordered : (text : List ℕ) (script : ScriptText) → script_of text ≡ Some script → IsOrderOf script.programs script.order
 script-ordered text script h =
-    let read = map-some (with_entries (script_with (replicate 16 []) [])) (all_of entry_of (filter is_request_line (lines text))) script h in
+    let read = map-some (with_entries (script_with (replicate 16 []) [])) (all_of entry_in (filter is_request_line (lines text))) script h in
     let ordered = ordered_all read.0 (script_with (replicate 16 []) []) (entries-sessions (filter is_request_line (lines text)) read.0 read.1) nothing_ordered in
     order_of (subst IsOrdered read.2 ordered)

@@ -1,96 +1,103 @@
 -- The forms of requests: a word, and tokens that spell the arguments.
-use Rattle.std.specs.Prelude.{ℕ, pos, List, [], ◌∷◌, Option, Some, None, option_and_then, if◌then◌else◌, codes, bytes_eq}
+use Rattle.std.specs.Prelude.{ℕ, pos, List, [], ◌∷◌, Option, Some, None, if◌then◌else◌, codes, bytes_eq}
 use Rattle.lo_base.specs.declared.request.Request.{Request}
-use Rattle.lo_base.specs.declared.request.Request.TheVariants.{Begin, Commit, Rollback, Savepoint, Release, RollbackTo, LoCreate, LoPut, LoGet, Vacuum}
-use Rattle.lo_machine.specs.Served.{put_limit}
-use Rattle.lo_script.specs.Token.{number_of, bytes_of, name_of, keyword_of}
+use Rattle.lo_base.specs.declared.request.Request.TheVariants.{Begin, Commit, Rollback, Savepoint, Release, RollbackTo, LoCreat, LoCreate, LoOpen, LoClose, LoRead, LoWrite, LoLseek, LoLseek64, LoTell, LoTell64, LoTruncate, LoTruncate64, LoUnlink, LoGet, LoPut, LoFromBytea, Vacuum}
+use Rattle.lo_machine.specs.Spelled.{bytes_limit}
+use Rattle.lo_script.specs.Reading.{Reading, Read, BadAt, read_at, read_and}
+use Rattle.lo_script.specs.Token.{TokenList, column_after, oid_of, int4_of, int8_of, bytes_of, name_of, keyword_of, begins}
+
+-- what tokens spell, the first of which begins at a column
+abbrev pub Reader : Type 0 → Type 0
+Reader R = (column : ℕ) → (tokens : TokenList) → Reading R
 
 -- the first token spells a value, and the others go on with it
-abbrev pub first_token : {A R : Type 0} → (value : List ℕ → Option A) → (others : A → List (List ℕ) → Option R) → List (List ℕ) → Option R
-first_token value others [] = None
-first_token value others (token ∷ tokens) = option_and_then (λ a. others a tokens) (value token)
+abbrev pub first_token : {A R : Type 0} → (value : List ℕ → Option A) → (others : A → Reader R) → Reader R
+first_token value others column [] = BadAt column
+first_token value others column (token ∷ tokens) = read_and (λ a. others a (column_after column token tokens) tokens) (read_at column (value token))
 
-abbrev pub no_token : {R : Type 0} → R → List (List ℕ) → Option R
-no_token r [] = Some r
-no_token r (token ∷ tokens) = None
+abbrev pub no_token : {R : Type 0} → R → Reader R
+no_token r column [] = Read r
+no_token r column (token ∷ tokens) = BadAt column
 
 -- one token and no more
-abbrev pub one_token : {A R : Type 0} → (value : List ℕ → Option A) → (A → R) → List (List ℕ) → Option R
+abbrev pub one_token : {A R : Type 0} → (value : List ℕ → Option A) → (A → R) → Reader R
 one_token value make = first_token value (λ a. no_token (make a))
 
 -- two tokens and no more
-abbrev pub two_tokens : {A B R : Type 0} → (first : List ℕ → Option A) → (second : List ℕ → Option B) → (A → B → R) → List (List ℕ) → Option R
+abbrev pub two_tokens : {A B R : Type 0} → (first : List ℕ → Option A) → (second : List ℕ → Option B) → (A → B → R) → Reader R
 two_tokens first second make = first_token first (λ a. one_token second (make a))
 
 -- three tokens and no more
-abbrev pub three_tokens : {A B C R : Type 0} → (first : List ℕ → Option A) → (second : List ℕ → Option B) → (third : List ℕ → Option C) → (A → B → C → R) → List (List ℕ) → Option R
+abbrev pub three_tokens : {A B C R : Type 0} → (first : List ℕ → Option A) → (second : List ℕ → Option B) → (third : List ℕ → Option C) → (A → B → C → R) → Reader R
 three_tokens first second third make = first_token first (λ a. two_tokens second third (make a))
 
 -- that value where no token is left, and otherwise what the tokens spell
-abbrev pub none_or : {R : Type 0} → R → (others : List (List ℕ) → Option R) → List (List ℕ) → Option R
-none_or r others [] = Some r
-none_or r others (token ∷ tokens) = others (token ∷ tokens)
-
--- savepoint NAME
-abbrev pub savepoint_of : List (List ℕ) → Option Request
-savepoint_of = one_token name_of Savepoint
-
--- release NAME
-abbrev pub release_of : List (List ℕ) → Option Request
-release_of = one_token name_of Release
+abbrev pub none_or : {R : Type 0} → R → (others : Reader R) → Reader R
+none_or r others column [] = Read r
+none_or r others column (token ∷ tokens) = others column (token ∷ tokens)
 
 -- rollback, or rollback to NAME
-abbrev pub rollback_of : List (List ℕ) → Option Request
+abbrev pub rollback_of : Reader Request
 rollback_of = none_or Rollback (two_tokens (keyword_of (codes "to")) name_of (λ _ name. RollbackTo name))
 
--- the greatest number of a large object
-abbrev pub oid_limit : ℕ
-oid_limit = 4294967295
-
--- lo_create OID
-abbrev pub create_of : List (List ℕ) → Option Request
-create_of = one_token (number_of 1 oid_limit) LoCreate
-
--- lo_put OID OFFSET BYTES
-abbrev pub put_of : List (List ℕ) → Option Request
-put_of = three_tokens (number_of 0 oid_limit) (number_of 0 put_limit) (bytes_of put_limit) (λ oid offset bytes. LoPut oid (pos offset) bytes)
-
--- lo_get OID, which is all bytes from the first on
-abbrev pub get_of : List (List ℕ) → Option Request
-get_of = one_token (number_of 0 oid_limit) (λ oid. LoGet oid (pos 0) None)
+-- lo_get OID, which is all bytes from the first on, or lo_get OID INT8 LEN4
+abbrev pub get_of : Reader Request
+get_of = first_token oid_of (λ oid. none_or (LoGet oid (pos 0) None) (two_tokens int8_of int4_of (λ from length. LoGet oid from (Some length))))
 
 -- a form: its word, and the request that the tokens after it spell
 pub record Form : Type 0 where
   pub word : List ℕ
-  pub request : (arguments : List (List ℕ)) → Option Request
+  pub request : Reader Request
 
-abbrev pub form : (word : List ℕ) → (request : List (List ℕ) → Option Request) → Form
+abbrev pub form : (word : List ℕ) → (request : Reader Request) → Form
 form word request = record { word = word; request = request }
 
--- forms of requests on large objects
-abbrev pub large_object_forms : List Form
-large_object_forms =
-    form (codes "lo_create") create_of
-    ∷ form (codes "lo_put") put_of
-    ∷ form (codes "lo_get") get_of
+-- the forms of requests on open large objects
+abbrev pub descriptor_forms : List Form
+descriptor_forms =
+    form (codes "lo_close") (one_token int4_of LoClose)
+    ∷ form (codes "lo_read") (two_tokens int4_of int4_of LoRead)
+    ∷ form (codes "lo_write") (two_tokens int4_of (bytes_of bytes_limit) LoWrite)
+    ∷ form (codes "lo_lseek") (three_tokens int4_of int4_of int4_of LoLseek)
+    ∷ form (codes "lo_lseek64") (three_tokens int4_of int8_of int4_of LoLseek64)
+    ∷ form (codes "lo_tell") (one_token int4_of LoTell)
+    ∷ form (codes "lo_tell64") (one_token int4_of LoTell64)
+    ∷ form (codes "lo_truncate") (two_tokens int4_of int4_of LoTruncate)
+    ∷ form (codes "lo_truncate64") (two_tokens int4_of int8_of LoTruncate64)
     ∷ []
 
--- all forms
-abbrev pub forms : List Form
-forms =
+-- the forms of requests on large objects, whose words all begin with `lo_`
+abbrev pub large_object_forms : List Form
+large_object_forms =
+    form (codes "lo_creat") (one_token int4_of LoCreat)
+    ∷ form (codes "lo_create") (one_token oid_of LoCreate)
+    ∷ form (codes "lo_open") (two_tokens oid_of int4_of LoOpen)
+    ∷ form (codes "lo_unlink") (one_token oid_of LoUnlink)
+    ∷ form (codes "lo_get") get_of
+    ∷ form (codes "lo_put") (three_tokens oid_of int8_of (bytes_of bytes_limit) LoPut)
+    ∷ form (codes "lo_from_bytea") (two_tokens oid_of (bytes_of bytes_limit) LoFromBytea)
+    ∷ descriptor_forms
+
+-- the other forms
+abbrev pub other_forms : List Form
+other_forms =
     form (codes "begin") (no_token Begin)
     ∷ form (codes "commit") (no_token Commit)
     ∷ form (codes "rollback") rollback_of
-    ∷ form (codes "savepoint") savepoint_of
-    ∷ form (codes "release") release_of
+    ∷ form (codes "savepoint") (one_token name_of Savepoint)
+    ∷ form (codes "release") (one_token name_of Release)
     ∷ form (codes "vacuum") (no_token Vacuum)
-    ∷ large_object_forms
+    ∷ []
 
--- the request that the form with that word gives
-abbrev pub form_in : List Form → (word : List ℕ) → (arguments : List (List ℕ)) → Option Request
-form_in [] word arguments = None
-form_in (f ∷ more) word arguments = if bytes_eq word f.word then f.request arguments else form_in more word arguments
+-- the forms among which a word is looked for
+abbrev pub forms_of : (word : List ℕ) → List Form
+forms_of word = if begins (codes "lo_") word then large_object_forms else other_forms
 
-abbrev pub request_of : List (List ℕ) → Option Request
-request_of [] = None
-request_of (word ∷ arguments) = form_in forms word arguments
+-- what the form with that word reads, if it is one of these. The word begins at `start`, the arguments after it at `column`
+abbrev pub form_in : List Form → (word : List ℕ) → (start : ℕ) → Reader Request
+form_in [] word start column arguments = BadAt start
+form_in (f ∷ more) word start column arguments = if bytes_eq word f.word then f.request column arguments else form_in more word start column arguments
+
+abbrev pub request_of : Reader Request
+request_of start [] = BadAt start
+request_of start (word ∷ arguments) = form_in (forms_of word) word start (column_after start word arguments) arguments

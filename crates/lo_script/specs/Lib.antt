@@ -1,5 +1,6 @@
 pub mod Answer
 pub mod Form
+pub mod Reading
 pub mod ReplyText
 pub mod Script
 pub mod Spelling

@@ -1,3 +1,4 @@
+// Why a script was not read, and where: readers of a line know the column, and only `read_script` the line.
 use lo_base::NoMemory;
 use thiserror::Error;
 
@@ -28,5 +29,39 @@ impl From<NoMemory> for ScriptError {
 
     fn from(_e: NoMemory) -> ScriptError {
         ScriptError::NoMemory
+    }
+}
+
+/// Why a line was not read.
+#[derive(Debug, Drop)]
+pub enum LineError {
+    /// The column of the first token that is not allowed after those before it, as in a `BadLine`.
+    Bad(u64),
+    NoMemory,
+}
+
+impl LineError {
+    ghost use Rattle.std.specs.Prelude.{◌≡◌};
+    ghost use Rattle.lo_script.specs.Answer.{in_line};
+
+    /// The error of a script whose line of that number was not read.
+    pub fn in_line(self, line: u64) -> ScriptError
+        ensures { result ≡ in_line line self }
+    {
+        match self {
+            LineError::Bad(column) => ScriptError::Bad(BadLine { line, column }),
+            LineError::NoMemory => ScriptError::NoMemory,
+        }
+    }
+}
+
+impl From<NoMemory> for LineError {
+    ghost use Rattle.std.specs.Prelude.{◌≡◌};
+    ghost use Rattle.lo_script.specs.declared.error.LineError.TheVariants.{NoMemory as OutOfMemory};
+
+    ghost from_gives = { λ _ e. e ≡ OutOfMemory };
+
+    fn from(_e: NoMemory) -> LineError {
+        LineError::NoMemory
     }
 }

@@ -1,20 +1,24 @@
-ghost use Rattle.std.specs.Prelude.{◌≡◌, ◌↔◌, ◌<◌, ◌^◌, ℕ, List, Some};
-ghost use Rattle.std.specs.Fmt.{decimal};
+ghost use Rattle.std.specs.Prelude.{◌≡◌, ◌↔◌, ℕ, ℤ, List, Some};
+ghost use Rattle.std.specs.Fmt.{signed_decimal};
 ghost use Rattle.lo_base.specs.declared.reply.Reply.{Reply};
 ghost use Rattle.lo_base.specs.declared.request.Request.{Request};
 ghost use Rattle.lo_machine.specs.Served.{IsServed};
 ghost use Rattle.lo_script.specs.Form.{request_of};
+ghost use Rattle.lo_script.specs.Reading.{Read};
 ghost use Rattle.lo_script.specs.ReplyText.{text_of, IsOneLine, HasOneLineArrays};
-ghost use Rattle.lo_script.specs.Spelling.{SpellsServed};
-ghost use Rattle.lo_script.specs.Token.{TokenList, decimal_of};
+ghost use Rattle.lo_script.specs.Spelling.{IsInt8, SpellsServed, HasRanges, HasSpelling};
+ghost use Rattle.lo_script.specs.Token.{TokenList, int8_of};
 
 /// Laws of the grammar: a token spells the number that prints as it, and tokens spell the request
-/// whose printed form they are. What is spelled is served.
+/// whose printed form they are. What is spelled is served, and what is served can be spelled.
 pub fn tokens_spell()
-    ensures printed { (t : List ℕ) (n : ℕ) → decimal_of t ≡ Some n → t ≡ decimal n }
-    ensures read { (n : ℕ) → n < 2 ^ 64 → decimal_of (decimal n) ≡ Some n }
-    ensures spelled { (ts : TokenList) (r : Request) → request_of ts ≡ Some r → IsServed r }
-    ensures exact { (ts : TokenList) (r : Request) → (request_of ts ≡ Some r) ↔ SpellsServed r ts }
+    ensures printed { (t : List ℕ) (n : ℤ) → int8_of t ≡ Some n → t ≡ signed_decimal n }
+    ensures read { (n : ℤ) → IsInt8 n → int8_of (signed_decimal n) ≡ Some n }
+    ensures spelled { (column : ℕ) (ts : TokenList) (r : Request) →
+        request_of column ts ≡ Read r → IsServed r }
+    ensures exact { (column : ℕ) (ts : TokenList) (r : Request) →
+        (request_of column ts ≡ Read r) ↔ SpellsServed r ts }
+    ensures printable { (r : Request) → IsServed r → HasRanges r → HasSpelling r }
 {}
 
 /// Law of replies: where the arrays' texts in a reply hold no line feed, its whole text holds none, so

@@ -4,6 +4,7 @@
 
 mod error;
 mod form;
+mod large_object_form;
 mod law;
 mod reply;
 mod script;

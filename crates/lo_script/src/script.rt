@@ -3,10 +3,10 @@
 ghost use Rattle.std.specs.Prelude.{◌≡◌, ◌<◌, ◌∷◌, length, Some, None, IfOk, IfErr};
 ghost use Rattle.std.specs.Str.Lines.{lines, strip_carriage_return};
 ghost use Rattle.lo_machine.specs.Run.{IsOrderOf};
-ghost use Rattle.lo_script.specs.Answer.{IsBad, Reads};
+ghost use Rattle.lo_script.specs.Answer.{IsBad, NamesFirstBad, Reads};
 ghost use Rattle.lo_script.specs.Script.{script_of, script_with, entry_of, is_request_line};
 
-use crate::error::ScriptError;
+use crate::error::{LineError, ScriptError};
 use crate::form::read_request;
 use crate::token::{Tokens, cut};
 use lo_base::{Request, SessionNo};
@@ -23,11 +23,13 @@ pub struct Script {
 }
 
 /// Reads a script: one request a line, after the mark of its session, such as `B:`. Reading stops at the
-/// first line outside the grammar, which the error names.
+/// first line outside the grammar, which the error names with the column in it.
+#[tactic(auto, using(crate::proofs::FirstBadLines::skipped_read))]
 pub fn read_script(alloc: Global, bytes: &[u8]) -> Result<Script, ScriptError>
     ensures ok { IfOk result (λ s. script_of bytes.now ≡ Some (script_with s.programs s.order)) }
     ensures order { IfOk result (λ s. IsOrderOf s.programs s.order) }
     ensures bad { IfErr result (λ e. IsBad e → script_of bytes.now ≡ None) }
+    ensures first { IfErr result (NamesFirstBad bytes.now) }
 {
     let mut programs = Programs::new(alloc)?;
     let mut order = Schedule::new(alloc);
@@ -38,7 +40,10 @@ pub fn read_script(alloc: Global, bytes: &[u8]) -> Result<Script, ScriptError>
         rest = after;
         number += 1;
         if is_request_line(line) {
-            let (s, request) = read_line(alloc, line, number)?;
+            let (s, request) = match read_line(alloc, line) {
+                Ok(entry) => entry,
+                Err(e) => return Err(e.in_line(number)),
+            };
             programs.push(s, request)?;
             order.push(s)?;
         }
@@ -46,11 +51,11 @@ pub fn read_script(alloc: Global, bytes: &[u8]) -> Result<Script, ScriptError>
     Ok(Script { programs, order })
 }
 
-/// The session and the request of the line of that number.
-fn read_line(alloc: Global, line: &[u8], number: u64) -> Result<(SessionNo, Request), ScriptError>
+/// The session and the request of a line.
+fn read_line(alloc: Global, line: &[u8]) -> Result<(SessionNo, Request), LineError>
     ensures { Reads (entry_of line.now) result }
 {
-    let mut tokens = Tokens::of(line, number);
+    let mut tokens = Tokens::of(line);
     let s = tokens.next()?.session()?;
     Ok((s, read_request(alloc, &mut tokens)?))
 }

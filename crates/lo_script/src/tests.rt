@@ -1,5 +1,10 @@
-// What no clause says: lines and columns of errors, that calls succeed where there is memory, and printed texts once more. The
+// What no clause says: that calls succeed where there is memory, and printed texts once more. The
 // expected texts are typed from the grammar and the table of replies, never from what the program printed.
+mod large_objects;
+mod refused_memory;
+mod wrong_lines;
+
+use crate::error::LineError;
 use crate::token::Tokens;
 use crate::{BadLine, ScriptError, read_script, reply_text};
 use lo_base::{Bytes, Cause, Cell, Cells, Ids, Refusal, Reply, Request, SessionNo, Word};
@@ -7,195 +12,12 @@ use std::alloc::Global;
 use std::process::Abort;
 use std::test::Fail;
 
-/// Texts outside the grammar, with the line and the column of the first token that is not allowed.
-const BAD: [(&str, u64, u64); 135] = [
-    // the session's mark
-    ("begin", 1, 1),
-    ("a: lo_get 1", 1, 1),
-    ("A lo_get 1", 1, 1),
-    ("A:lo_get 1", 1, 1),
-    (" A: lo_get 1", 1, 1),
-    (" ", 1, 1),
-    (" # x", 1, 1),
-    ("Q: begin", 1, 1),
-    ("@: begin", 1, 1),
-    ("p: begin", 1, 1),
-    ("1: begin", 1, 1),
-    ("AA: begin", 1, 1),
-    ("PA: begin", 1, 1),
-    (": begin", 1, 1),
-    ("P; begin", 1, 1),
-    ("B begin", 1, 1),
-    ("P:begin", 1, 1),
-    // the word
-    ("A:", 1, 3),
-    ("P:", 1, 3),
-    ("A: ", 1, 4),
-    ("A:  lo_get 1", 1, 4),
-    ("A: lo_creat 1", 1, 4),
-    ("A: LO_GET 1", 1, 4),
-    ("A: lo_create\t1", 1, 4),
-    ("A: # x", 1, 4),
-    ("A: lo_open 5 1", 1, 4),
-    ("B: BEGIN", 1, 4),
-    ("B: begins", 1, 4),
-    ("B: comit", 1, 4),
-    ("C: roll back", 1, 4),
-    ("C: rollbackto s", 1, 4),
-    ("C: Rollback", 1, 4),
-    ("D: savepoints s", 1, 4),
-    ("D: save point s", 1, 4),
-    ("E: releas s", 1, 4),
-    ("P: vacuum;", 1, 4),
-    ("P: abort", 1, 4),
-    ("P: to s", 1, 4),
-    // begin, commit and vacuum
-    ("A: begin x", 1, 10),
-    ("A: begin ", 1, 10),
-    ("A: begin  x", 1, 10),
-    ("A: begin repeatable read", 1, 10),
-    ("B: commit x", 1, 11),
-    ("B: commit ", 1, 11),
-    ("B: commit and chain", 1, 11),
-    ("P: vacuum t", 1, 11),
-    ("P: vacuum ", 1, 11),
-    ("P: vacuum full", 1, 11),
-    // rollback, alone or to a savepoint
-    ("A: rollback x", 1, 13),
-    ("A: rollback ", 1, 13),
-    ("A: rollback TO s", 1, 13),
-    ("A: rollback too s", 1, 13),
-    ("A: rollback t s", 1, 13),
-    ("A: rollback s", 1, 13),
-    ("A: rollback  to s", 1, 13),
-    ("A: rollback savepoint s", 1, 13),
-    ("A: rollback to", 1, 15),
-    ("A: rollback to ", 1, 16),
-    ("A: rollback to  s", 1, 16),
-    ("A: rollback to S", 1, 16),
-    ("A: rollback to 1s", 1, 16),
-    ("A: rollback to s ", 1, 18),
-    ("A: rollback to s t", 1, 18),
-    ("A: rollback to savepoint s", 1, 26),
-    // savepoint and release
-    ("A: savepoint", 1, 13),
-    ("A: savepoint ", 1, 14),
-    ("A: savepoint  s", 1, 14),
-    ("A: savepoint S", 1, 14),
-    ("A: savepoint sT", 1, 14),
-    ("A: savepoint 1", 1, 14),
-    ("A: savepoint s-t", 1, 14),
-    ("A: savepoint s.t", 1, 14),
-    ("A: savepoint \ts", 1, 14),
-    ("A: savepoint \u{00e9}", 1, 14),
-    ("A: savepoint s ", 1, 16),
-    ("A: savepoint s t", 1, 16),
-    (
-        "A: savepoint aaaaaaaaaaaaaaaaaaaaaaaaaaaaaaaaaaaaaaaaaaaaaaaaaaaaaaaaaaaaaaaa",
-        1,
-        14,
-    ),
-    ("O: release", 1, 11),
-    ("O: release ", 1, 12),
-    ("O: release  s", 1, 12),
-    ("O: release R", 1, 12),
-    ("O: release 2", 1, 12),
-    ("O: release `a", 1, 12),
-    ("O: release a{", 1, 12),
-    ("O: release s ", 1, 14),
-    ("O: release s t", 1, 14),
-    ("O: release savepoint s", 1, 22),
-    // lo_create
-    ("A: lo_create", 1, 13),
-    ("A: lo_create ", 1, 14),
-    ("A: lo_create  1", 1, 14),
-    ("A: lo_create 0", 1, 14),
-    ("A: lo_create 01", 1, 14),
-    ("A: lo_create +1", 1, 14),
-    ("A: lo_create -1", 1, 14),
-    ("A: lo_create 1x", 1, 14),
-    ("A: lo_create 4294967296", 1, 14),
-    ("A: lo_create 18446744073709551617", 1, 14),
-    ("A: lo_create 1 ", 1, 16),
-    ("A: lo_create 1 2", 1, 16),
-    // lo_put
-    ("A: lo_put", 1, 10),
-    ("A: lo_put 5", 1, 12),
-    ("A: lo_put 5 0", 1, 14),
-    ("A: lo_put x y z", 1, 11),
-    ("A: lo_put 4294967296 0 \\x", 1, 11),
-    ("A: lo_put 5 -1 \\x41", 1, 13),
-    ("A: lo_put 5 00 \\x41", 1, 13),
-    ("A: lo_put 5 8388609 \\x41", 1, 13),
-    ("A: lo_put 5 0  \\x41", 1, 15),
-    ("A: lo_put 5 0 41", 1, 15),
-    ("A: lo_put 5 0 \\", 1, 15),
-    ("A: lo_put 5 0 \\x4", 1, 15),
-    ("A: lo_put 5 0 \\x4g", 1, 15),
-    ("A: lo_put 5 0 \\X41", 1, 15),
-    ("A: lo_put 5 0 \\x4 1", 1, 15),
-    ("A: lo_put 5 0 \\x41 ", 1, 20),
-    ("A: lo_put 5 0 \\x41 1", 1, 20),
-    // lo_get
-    ("A: lo_get", 1, 10),
-    ("A: lo_get five", 1, 11),
-    ("A: lo_get 4294967296", 1, 11),
-    ("A: lo_get 5 1 2", 1, 13),
-    ("A: lo_get 5 # x", 1, 13),
-    // ends of lines, and which line is the first
-    ("A: lo_get\r\n", 1, 10),
-    ("A: lo_get 5\r\r\n", 1, 11),
-    ("A: lo_get 5\r", 1, 11),
-    ("\r", 1, 1),
-    ("\r\n\r\r\n", 2, 1),
-    ("\n\n# lo_get\nA: lo_get", 4, 10),
-    ("A: lo_create 1\r\nA: lo_get 1\nA: lo_get x\nA:", 3, 11),
-    ("A: lo_create 1\n\u{00e9}: lo_get \u{00e9}\n", 2, 1),
-    ("A: begin\r", 1, 4),
-    ("A: begin\r\r\n", 1, 4),
-    ("A: savepoint\r\n", 1, 13),
-    ("A: rollback to\r\n", 1, 15),
-    ("A: begin\nB: begin\nQ: begin\n", 3, 1),
-    ("A: begin\r\nA: savepoint a\r\nA: rollback to A\r\n", 3, 16),
-];
-
 /// The line and the column that the error names.
 fn bad_line_of(e: &ScriptError) -> Option<BadLine> {
     match e {
         ScriptError::Bad(start) => Some(*start),
         ScriptError::NoMemory => None,
     }
-}
-
-fn expect_bad(rt: &impl Abort, alloc: Global, text: &[u8], line: u64, column: u64) {
-    let start = read_script(alloc, text).err().and_then(|e| bad_line_of(&e));
-    assert_eq!(rt; start, Some(BadLine { line, column }));
-}
-
-#[test]
-fn bad_lines_are_refused_at_their_first_wrong_token(rt: HostRuntime) {
-    for (text, line, column) in BAD.iter() {
-        expect_bad(&rt, rt.alloc(), text.as_bytes(), *line, *column);
-    }
-    expect_bad(&rt, rt.alloc(), b"#\xff\n\xff 1", 2, 1);
-}
-
-#[test]
-fn a_script_is_read(rt: HostRuntime) -> Result<(), Fail> {
-    let text =
-        b"# three\xff requests\n\r\n\nA: lo_create 4294967295\r\nA: lo_put 0 8388608 \\x4aBCd0\n#\nA: lo_get 0";
-    let script = read_script(rt.alloc(), text)?;
-    let s = SessionNo::new(1).ok_or("no session")?;
-    assert_eq!(rt; script.order.items(), [s, s, s].as_slice());
-    let [create, put, get] = script.programs.lines(s) else {
-        return Err(Fail::from("three lines were expected"));
-    };
-    assert!(rt; matches!(create, Request::LoCreate(4294967295)));
-    assert!(rt;
-        matches!(put, Request::LoPut(0, 8388608, bytes) if bytes.items() == b"\x4a\xbc\xd0".as_slice())
-    );
-    assert!(rt; matches!(get, Request::LoGet(0, 0, None)));
-    Ok(())
 }
 
 /// Requests of sessions 1, 2 and 16 in turn.
@@ -243,20 +65,16 @@ fn each_letter_is_a_session(rt: HostRuntime) -> Result<(), Fail> {
     for (n, letter) in (1..=16).zip(b"ABCDEFGHIJKLMNOP") {
         let s = SessionNo::new(n).ok_or("no session")?;
         let mark = [*letter, b':'];
-        assert_eq!(rt; Tokens::of(&mark, 1).next()?.session()?, s);
+        assert_eq!(rt; Tokens::of(&mark).next()?.session()?, s);
     }
     Ok(())
 }
 
 #[test]
 fn bytes_have_a_limit(rt: HostRuntime) -> Result<(), Fail> {
-    let token = Tokens::of(b"\\x4142", 7).next()?;
+    let token = Tokens::of(b"\\x4142").next()?;
     assert_eq!(rt; token.bytes(rt.alloc(), 2)?.items(), b"AB".as_slice());
-    let start = token
-        .bytes(rt.alloc(), 1)
-        .err()
-        .and_then(|e| bad_line_of(&e));
-    assert_eq!(rt; start, Some(BadLine { line: 7, column: 1 }));
+    assert!(rt; matches!(token.bytes(rt.alloc(), 1).err(), Some(LineError::Bad(1))));
     Ok(())
 }
 

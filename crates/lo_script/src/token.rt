@@ -3,14 +3,17 @@
 ghost use Rattle.std.specs.Prelude.{◌≡◌, ◌≢◌, ◌↔◌, IsTrue, ◌+◌, ◌<◌, ◌==◌, [], ◌∷◌};
 ghost use Rattle.std.specs.Prelude.{length, bytes_eq, IfOk, IfErr, OnOk, IfSome};
 ghost use Rattle.std.specs.List.{position};
-ghost use Rattle.lo_script.specs.Answer.{IsBad, Reads};
-ghost use Rattle.lo_script.specs.Token.{tokens_of, pieces_of, pieces_left, length_left};
-ghost use Rattle.lo_script.specs.Token.{keyword_of, session_of, number_of, name_of, bytes_of};
+ghost use Rattle.lo_script.specs.Answer.{Reads};
+ghost use Rattle.lo_script.specs.Reading.{read_at};
+ghost use Rattle.lo_script.specs.declared.error.LineError.TheVariants.{Bad};
+ghost use Rattle.lo_script.specs.Token.{tokens_of, rest_of, column_after, pieces_of, pieces_left};
+ghost use Rattle.lo_script.specs.Token.{length_left, keyword_of, session_of, oid_of, int4_of};
+ghost use Rattle.lo_script.specs.Token.{int8_of, name_of, bytes_of, begins};
 
-use crate::error::{BadLine, ScriptError};
+use crate::error::LineError;
 use hex::FromHexError;
 use itoa::Buffer;
-use lo_base::{Bytes, Name, SessionNo, is_name};
+use lo_base::{Bytes, Name, Oid, SessionNo, is_name};
 use std::alloc::Global;
 use std::marker::Model;
 use std::str;
@@ -19,92 +22,94 @@ use std::str;
 #[derive(Drop)]
 pub struct Tokens<'a> {
     line: &'a [u8],
-    /// The line's number in its script, from 1.
-    number: u64,
     /// From the next token on, or nothing after the last.
     rest: Option<&'a [u8]>,
 }
 
 impl<'a> Model for Tokens<'a> {
-    ghost use Rattle.std.specs.Prelude.{ℕ, ◌≤◌, List, [], length};
+    ghost use Rattle.std.specs.Prelude.{◌≤◌, length};
     ghost use Rattle.std.specs.Option.{option_map_or};
-    ghost use Rattle.lo_script.specs.Token.{tokens_of};
+    ghost use Rattle.lo_script.specs.Token.{Rest, rest_of};
 
-    ghost Value = { List (List ℕ) };
+    ghost Value = { Rest };
 
-    ghost view = { λ t. option_map_or (λ rest. tokens_of rest.now) t.rest [] };
+    ghost view = { λ t. rest_of t.line.now t.rest };
 
     ghost invariant = { λ t. option_map_or (λ rest. length rest.now) t.rest 0 ≤ length t.line.now };
 }
 
-/// A token and where it begins.
+/// A token and the column where it begins.
 #[derive(Clone, Copy)]
 pub struct Token<'a> {
     text: &'a [u8],
-    start: BadLine,
+    column: u64,
 }
 
 impl<'a> Tokens<'a> {
-    /// All tokens of the line of that number.
-    pub fn of(line: &'a [u8], number: u64) -> Tokens<'a>
-        ensures { result ≡ tokens_of line.now }
+    /// All tokens of a line.
+    pub fn of(line: &'a [u8]) -> Tokens<'a>
+        ensures tokens { result.tokens ≡ tokens_of line.now }
+        ensures column { result.column ≡ 1 }
     {
         Tokens {
             line,
-            number,
             rest: Some(line),
         }
     }
 
     /// Takes the next token.
-    pub fn next(&mut self) -> Result<Token<'a>, ScriptError>
-        ensures ok { IfOk result (λ token. self.old ≡ token.text.now ∷ self.new) }
-        ensures bad { IfErr result (λ e. IsBad e → self.old ≡ []) }
+    pub fn next(&mut self) -> Result<Token<'a>, LineError>
+        ensures ok { IfOk result (λ token. self.old.tokens ≡ token.text.now ∷ self.new.tokens) }
+        ensures start { IfOk result (λ token. token.column ≡ self.old.column) }
+        ensures column { IfOk result (λ token.
+            self.new.column ≡ column_after token.column token.text.now self.new.tokens) }
+        ensures bad { IfErr result (λ e. self.old.tokens ≡ []) }
+        ensures missing { IfErr result (λ e. e ≡ Bad self.old.column) }
     {
-        let start = self.start();
+        let column = self.column();
         let Some(rest) = self.rest else {
-            return Err(ScriptError::Bad(start));
+            return Err(LineError::Bad(column));
         };
         let (text, after) = cut(rest, b' ');
         self.rest = after;
-        Ok(Token { text, start })
+        Ok(Token { text, column })
     }
 
     /// Checks that no token is left.
-    pub fn end(&self) -> Result<(), ScriptError>
-        ensures ok { OnOk result (self.now ≡ []) }
-        ensures bad { IfErr result (λ e. IsBad e → self.now ≢ []) }
+    pub fn end(&self) -> Result<(), LineError>
+        ensures ok { OnOk result (self.now.tokens ≡ []) }
+        ensures bad { IfErr result (λ e. self.now.tokens ≢ []) }
+        ensures left { IfErr result (λ e. e ≡ Bad self.now.column) }
     {
         if self.is_at_end() {
             Ok(())
         } else {
-            Err(ScriptError::Bad(self.start()))
+            Err(LineError::Bad(self.column()))
         }
     }
 
     /// Whether no token is left.
     pub fn is_at_end(&self) -> bool
-        ensures { IsTrue result ↔ (self.now ≡ []) }
+        ensures { IsTrue result ↔ (self.now.tokens ≡ []) }
     {
         self.rest.is_none()
     }
 
-    /// The line and the column of the next token, or of the line's end where none is left.
-    fn start(&self) -> BadLine {
+    /// The column of the next token, or of the line's end where none is left.
+    fn column(&self) -> u64
+        ensures { result ≡ self.now.column }
+    {
         let left = self.rest.map_or(0, |rest| rest.len());
-        BadLine {
-            line: self.number,
-            column: (self.line.len() - left) as u64 + 1,
-        }
+        (self.line.len() - left) as u64 + 1
     }
 }
 
 impl Token<'_> {
     /// The error that this token is not allowed.
-    pub fn refused(&self) -> ScriptError
-        ensures { IsBad result }
+    pub fn refused(&self) -> LineError
+        ensures { result ≡ Bad self.now.column }
     {
-        ScriptError::Bad(self.start)
+        LineError::Bad(self.column)
     }
 
     /// Whether the token is that word.
@@ -114,9 +119,16 @@ impl Token<'_> {
         self.text == word
     }
 
+    /// Whether the token begins with these bytes.
+    pub fn begins(&self, front: &[u8]) -> bool
+        ensures { result ≡ begins front.now self.now.text.now }
+    {
+        self.text.starts_with(front)
+    }
+
     /// Checks that the token is that word.
-    pub fn keyword(&self, word: &[u8]) -> Result<(), ScriptError>
-        ensures { Reads (keyword_of word.now self.now.text.now) result }
+    pub fn keyword(&self, word: &[u8]) -> Result<(), LineError>
+        ensures { Reads (read_at self.now.column (keyword_of word.now self.now.text.now)) result }
     {
         if self.is(word) {
             Ok(())
@@ -126,8 +138,8 @@ impl Token<'_> {
     }
 
     /// The session of a mark.
-    pub fn session(&self) -> Result<SessionNo, ScriptError>
-        ensures { Reads (session_of self.now.text.now) result }
+    pub fn session(&self) -> Result<SessionNo, LineError>
+        ensures { Reads (read_at self.now.column (session_of self.now.text.now)) result }
     {
         match marked(self.text) {
             Some(s) => Ok(s),
@@ -135,20 +147,40 @@ impl Token<'_> {
         }
     }
 
-    /// A decimal from `least` to `most`.
-    pub fn number(&self, least: u32, most: u32) -> Result<u32, ScriptError>
-        ensures { Reads (number_of least most self.now.text.now) result }
+    /// The number of a large object.
+    pub fn oid(&self) -> Result<Oid, LineError>
+        ensures { Reads (read_at self.now.column (oid_of self.now.text.now)) result }
     {
         match decimal(self.text) {
-            Some(n) if least <= n && n <= most => Ok(n),
+            Some(n) if 0 <= n && n <= i64::from(Oid::MAX) => Ok(n as Oid),
             _ => Err(self.refused()),
+        }
+    }
+
+    /// A decimal in the range of `i32`, as descriptors, modes, lengths and whences are.
+    pub fn int4(&self) -> Result<i32, LineError>
+        ensures { Reads (read_at self.now.column (int4_of self.now.text.now)) result }
+    {
+        match decimal(self.text) {
+            Some(n) if i64::from(i32::MIN) <= n && n <= i64::from(i32::MAX) => Ok(n as i32),
+            _ => Err(self.refused()),
+        }
+    }
+
+    /// A decimal in the range of `i64`.
+    pub fn int8(&self) -> Result<i64, LineError>
+        ensures { Reads (read_at self.now.column (int8_of self.now.text.now)) result }
+    {
+        match decimal(self.text) {
+            Some(n) => Ok(n),
+            None => Err(self.refused()),
         }
     }
 
     /// A savepoint's name.
     #[tactic(auto, using(crate::proofs::MarksAndNames::spelled_name, crate::proofs::MarksAndNames::no_name))]
-    pub fn name(&self, alloc: Global) -> Result<Name, ScriptError>
-        ensures { Reads (name_of self.now.text.now) result }
+    pub fn name(&self, alloc: Global) -> Result<Name, LineError>
+        ensures { Reads (read_at self.now.column (name_of self.now.text.now)) result }
     {
         if is_name(self.text) {
             Ok(Name::from_slice(alloc, self.text)?)
@@ -158,8 +190,8 @@ impl Token<'_> {
     }
 
     /// At most `most` bytes, in hexadecimal digits of either case after `\x`.
-    pub fn bytes(&self, alloc: Global, most: usize) -> Result<Bytes, ScriptError>
-        ensures { Reads (bytes_of most self.now.text.now) result }
+    pub fn bytes(&self, alloc: Global, most: usize) -> Result<Bytes, LineError>
+        ensures { Reads (read_at self.now.column (bytes_of most self.now.text.now)) result }
     {
         let Some(digits) = self.text.strip_prefix(b"\\x") else {
             return Err(self.refused());
@@ -169,7 +201,7 @@ impl Token<'_> {
         }
         match hex::decode(alloc, digits) {
             Ok(bytes) => Ok(Bytes::from_vec(bytes)),
-            Err(FromHexError::OutOfMemory) => Err(ScriptError::NoMemory),
+            Err(FromHexError::OutOfMemory) => Err(LineError::NoMemory),
             Err(_) => Err(self.refused()),
         }
     }
@@ -185,11 +217,11 @@ fn marked(token: &[u8]) -> Option<SessionNo>
     }
 }
 
-/// The number below 2^32 that prints as the token.
-fn decimal(token: &[u8]) -> Option<u32>
-    ensures { result ≡ number_of 0 4294967295 token.now }
+/// The number that prints as the token.
+fn decimal(token: &[u8]) -> Option<i64>
+    ensures { result ≡ int8_of token.now }
 {
-    let n = str::from_utf8(token).ok()?.parse::<u32>().ok()?;
+    let n = str::from_utf8(token).ok()?.parse::<i64>().ok()?;
     if Buffer::new().format(n).as_bytes() == token {
         Some(n)
     } else {

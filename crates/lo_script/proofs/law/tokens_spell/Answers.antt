@@ -1,12 +1,18 @@
-use Rattle.lo_script.proofs.DecimalsAndBytes.{decimal_of-decimal}
-use Rattle.lo_script.proofs.SpelledRequests.{request-some, request-spelled}
+use Rattle.lo_script.proofs.DecimalsAndBytes.{int8_of-prints, int8_of-decimal}
+use Rattle.lo_script.proofs.SpelledRequests.{request-some, request-spelled, has_spelling}
 use Rattle.lo_script.proofs.law.tokens_spell.Goals as goal
 
+pub returns-clause-printed : goal.returns-clause-printed
+returns-clause-printed c token n h = (int8_of-prints token n h).is
+
 pub returns-clause-read : goal.returns-clause-read
-returns-clause-read c = decimal_of-decimal
+returns-clause-read c = int8_of-decimal
 
 pub returns-clause-spelled : goal.returns-clause-spelled
-returns-clause-spelled c tokens r h = (request-some tokens r h).0
+returns-clause-spelled c column tokens r h = (request-some column tokens r h).0
 
 pub returns-clause-exact : goal.returns-clause-exact
-returns-clause-exact c tokens r = (request-some tokens r, request-spelled tokens r)
+returns-clause-exact c column tokens r = (request-some column tokens r, request-spelled column tokens r)
+
+pub returns-clause-printable : goal.returns-clause-printable
+returns-clause-printable c = has_spelling

@@ -1,4 +1,4 @@
-use Rattle.std.proofs.Common.{◌≡◌, sym, ◌∙◌, rules}
+use Rattle.std.proofs.Common.{◌≡◌, ℤ, Some, ap, to_z-of_z, sym, ◌∙◌, rules, w64}
 use Rattle.lo_script.proofs.DecimalsAndBytes.{not_parsed, other_parsed, parsed, no_text}
 use Rattle.lo_script.proofs.token.decimal.Goals as goal
 
@@ -11,7 +11,7 @@ returns-in_err-n c =
     c.from_residual-in_err-n.ensures ∙ sym (not_parsed c.args.token.now c.parse.result (rw same c.parse.ensures.value.0) (search rules))
 
 pub returns-then-eq : goal.returns-then-eq
-returns-then-eq c = sym (parsed c.args.token.now c.in_ok-n.n (search rules) (search rules))
+returns-then-eq c = ap (λ (n : ℤ). Some n) (to_z-of_z {w = w64} {z = c.in_ok-n.n} (search rules)) ∙ sym (parsed c.args.token.now c.in_ok-n.n (search rules) (search rules))
 
 pub returns-else-eq : goal.returns-else-eq
 returns-else-eq c =
