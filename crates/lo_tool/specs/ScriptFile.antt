@@ -3,7 +3,7 @@ use Rattle.std.specs.Prelude.{◌≡◌, ℕ, ◌<◌, ◌≤◌, List, length, 
 use Rattle.lo_machine.specs.Run.{IsWhole, replies_of, schedule_of}
 use Rattle.lo_outside.specs.Files.{bytes_of}
 use Rattle.lo_script.specs.ReplyText.{lines_of}
-use Rattle.lo_script.specs.Script.{ScriptText, script_of}
+use Rattle.lo_script.specs.Script.{IsFirstBad, ScriptText, script_of}
 use Rattle.lo_tool.specs.Outside.{FilesState, IsRead, content}
 use Rattle.lo_tool.specs.Texts.{line_about, missing, too_long, bad_line_text}
 
@@ -30,11 +30,13 @@ pub record PrintsScript (files : FilesState) (name text : List ℕ) : Type 0 whe
   pub read : IsReadWithin files name bytes
   pub run : RunsTo bytes text
 
--- a line says at which line and column some bytes are outside the grammar
+-- A line says where some bytes are outside the grammar: at the first line that is, and the column of the first token there
+-- that is not allowed.
 pub record IsOutsideGrammar (name bytes line : List ℕ) : Type 0 where
   pub line_number : ℕ
   pub column : ℕ
   pub none : script_of bytes ≡ None
+  pub first : IsFirstBad bytes line_number column
   pub said : line ≡ line_about name (bad_line_text line_number column)
 
 -- Why a file is no script that can be run, with the line that says so: it is not there, it is too long, or it is not too long

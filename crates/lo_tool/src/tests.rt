@@ -1,8 +1,10 @@
 //! Whole commands: words, one file, and what the two sinks took. What is to come is written by hand.
 ghost use Rattle.std.specs.Prelude.{◌≡◌, ◌≤◌, length, IfOk};
 
+mod descriptors;
 mod dialogue;
 mod large;
+mod objects;
 mod transactions;
 
 use crate::run::{Status, run};

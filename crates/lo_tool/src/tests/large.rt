@@ -125,3 +125,47 @@ fn the_longest_put_is_read_back(rt: HostRuntime) -> Result<(), Fail> {
     dialogue.add("A", &["lo_get 17001"], all.as_str())?;
     dialogue.check(&rt, alloc)
 }
+
+// Twenty thousand puts of 100 bytes side by side, and as many gets of 100 bytes.
+#[test]
+fn twenty_thousand_pieces_are_put_and_got(rt: HostRuntime) -> Result<(), Fail> {
+    let alloc = rt.alloc();
+    let mut dialogue = Dialogue::new(alloc);
+    let mut number = Buffer::new();
+    dialogue.add("A", &["lo_create 17001"], "17001")?;
+    for piece in 0..20_000_u32 {
+        let bytes = hex_of(alloc, &[(piece % 251) as u8], 100)?;
+        let at = number.format(piece * 100);
+        dialogue.add("A", &["lo_put 17001 ", at, " ", bytes.as_str()], "OK")?;
+    }
+    for piece in 0..20_000_u32 {
+        let bytes = hex_of(alloc, &[(piece % 251) as u8], 100)?;
+        let at = number.format(piece * 100);
+        dialogue.add("B", &["lo_get 17001 ", at, " 100"], bytes.as_str())?;
+    }
+    dialogue.check(&rt, alloc)
+}
+
+// Twenty thousand puts into one page, with a vacuum after every ten.
+#[test]
+fn one_page_is_put_twenty_thousand_times(rt: HostRuntime) -> Result<(), Fail> {
+    let alloc = rt.alloc();
+    let mut dialogue = Dialogue::new(alloc);
+    dialogue.add("A", &["lo_create 17001"], "17001")?;
+    for times in 0..20_000_u32 {
+        put(
+            &mut dialogue,
+            alloc,
+            ("A", "17001"),
+            times % 100,
+            (times % 251) as u8,
+        )?;
+        if times % 10 == 9 {
+            dialogue.add("B", &["vacuum"], "VACUUM")?;
+        }
+    }
+    // The last hundred are numbers 19900 to 19999, and 19900 % 251 is 71.
+    let last = hex_of(alloc, &bytes_to(alloc, 71, 170)?, 1)?;
+    dialogue.add("A", &["lo_get 17001"], last.as_str())?;
+    dialogue.check(&rt, alloc)
+}
