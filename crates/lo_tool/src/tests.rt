@@ -5,6 +5,7 @@ mod descriptors;
 mod dialogue;
 mod large;
 mod objects;
+mod refused_memory;
 mod transactions;
 
 use crate::run::{Status, run};

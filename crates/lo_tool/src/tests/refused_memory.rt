@@ -1,9 +1,8 @@
 //! A run in which a growth may be refused: whatever found no memory is done again, and every reply is the expected one. Each
 //! growth is refused in turn outside the gate, by `rt try --test --fail-alloc N`.
-use crate::reply::reply_text;
-use crate::script::read_script;
 use lo_base::{Bytes, NoMemory, Reply, SessionNo};
 use lo_machine::{Running, Schedule};
+use lo_script::{read_script, reply_text};
 use std::alloc::Global;
 use std::test::Fail;
 
