@@ -3,7 +3,7 @@ use Rattle.std.proofs.Common.{◌≡◌, ◌-◌, ◌^◌, ℕ, List, [], ◌∷
 use Rattle.lo_outside.specs.Files.{size_of, bytes_of}
 use Rattle.lo_outside.specs.Faults.{Rose}
 use Rattle.lo_outside.specs.FaultPlan.{Planned, no_faults, handed_over, one_more, is_due, after_call}
-use Rattle.lo_outside.specs.MemFiles.{MemFolder, file_named, can_put}
+use Rattle.lo_outside.specs.MemFiles.{MemFolder, file_named, can_put, append_fails, appended, rename_fails}
 use Rattle.lo_outside.specs.MemSink.{MemTaken, write_fails, write_count, after_write}
 
 rises_by_one : Rose 0 1
@@ -58,6 +58,34 @@ four_bytes_fit = refl
 five_bytes_do_not : can_put folder (97 ∷ []) (1 ∷ 2 ∷ 3 ∷ 4 ∷ 5 ∷ []) ≡ false
 unfolding folder
 five_bytes_do_not = refl
+
+one_byte_has_room : append_fails (97 ∷ []) (119 ∷ []) folder ≡ false
+unfolding folder
+one_byte_has_room = refl
+
+one_byte_is_added : appended (97 ∷ []) (119 ∷ []) folder ≡ 120 ∷ 121 ∷ 122 ∷ 119 ∷ []
+unfolding folder
+one_byte_is_added = refl
+
+two_bytes_have_none : append_fails (97 ∷ []) (118 ∷ 119 ∷ []) folder ≡ true
+unfolding folder
+two_bytes_have_none = refl
+
+half_of_them_is_added : appended (97 ∷ []) (118 ∷ 119 ∷ []) folder ≡ 120 ∷ 121 ∷ 122 ∷ 118 ∷ []
+unfolding folder
+half_of_them_is_added = refl
+
+nothing_to_append_to : append_fails (98 ∷ []) [] folder ≡ true
+unfolding folder
+nothing_to_append_to = refl
+
+a_can_be_renamed : rename_fails (97 ∷ []) (98 ∷ []) folder ≡ false
+unfolding folder
+a_can_be_renamed = refl
+
+b_cannot_be : rename_fails (98 ∷ []) (97 ∷ []) folder ≡ true
+unfolding folder
+b_cannot_be = refl
 
 -- room for five bytes, two at a time
 sink : List ℕ → MemTaken

@@ -1,3 +1,7 @@
 mod Examples
 mod FilesByName
+mod NamesOnce
+mod Renaming
 mod SettingBytes
+mod Telling
+mod Writing

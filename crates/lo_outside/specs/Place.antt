@@ -1,5 +1,5 @@
 -- The memory for one file of a folder in memory.
-use Rattle.std.specs.Prelude.{◌≡◌, ◌≤◌, ◌+◌, ℕ, List, [], Bool, false, All, length, Vec, vec_capacity}
+use Rattle.std.specs.Prelude.{◌≡◌, ◌≤◌, ◌+◌, ℕ, List, [], ◌++◌, Bool, true, false, All, count_by, length, Vec, vec_capacity}
 use Rattle.std.specs.declared.alloc.Global.{Global}
 use Rattle.std.specs.Str.{bytes_eq}
 use Rattle.lo_outside.specs.Files.{File}
@@ -37,12 +37,29 @@ with_bytes bytes place =
       room = place.room;
     }
 
+-- bytes are added at the end, and all are not synced then
+abbrev pub with_piece : List ℕ → Held → Held
+with_piece piece place = with_bytes (place.named.file.bytes ++ piece) place
+
+-- the bytes are known to be on the disk
+abbrev pub in_sync : Held → Held
+in_sync place =
+    record {
+      named = record {
+        name = place.named.name;
+        file = record { bytes = place.named.file.bytes; synced = true };
+      };
+      room = place.room;
+    }
+
 -- a place with that room
 abbrev pub HasRoom : ℕ → Held → Type 0
 HasRoom room place = place.room ≡ room
 
--- all places, with a file or free, have that room, and the list of files can take every free place
+-- all places, with a file or free, have that room, each of both lists can take every place, and no two files have one name
 pub record IsRoomy (room : ℕ) (files free : Vec Held Global) : Type 0 where
   pub capacity : length files.items + length free.items ≤ vec_capacity files
+  pub free_capacity : length files.items + length free.items ≤ vec_capacity free
+  pub single : (name : List ℕ) → count_by (has_name name) files.items ≤ 1
   pub files_room : All (HasRoom room) files.items
   pub free_room : All (HasRoom room) free.items

@@ -1,5 +1,6 @@
-ghost use Rattle.std.specs.Prelude.{◌≡◌, ◌-◌, ◌≤◌, ◌++◌, ℕ, Bool, List, Option, length, take, drop, min, IsTrue, IfOk};
-ghost use Rattle.lo_outside.specs.Files.{File, size_of, bytes_of};
+ghost use Rattle.std.specs.Prelude.{◌≡◌, ◌-◌, ◌≤◌, ◌++◌, ℕ, Bool, List, [], Option, Some, length, take, drop, min, IsTrue, IsSome, IfOk, OnOk, OnErr};
+ghost use Rattle.lo_outside.specs.Files.{File, size_of, bytes_of, unsynced, with_more, with_mark};
+ghost use Rattle.lo_outside.specs.Files.{SetsFile, CreatesOrKeeps, AppendsFront, Renames};
 ghost use Rattle.lo_outside.specs.Faults.{HasCause};
 
 /// An input or an output failed. No reason is told.
@@ -39,5 +40,44 @@ pub trait Files {
             ≡ take n (drop at (bytes_of (folder self.old name.now))) ++ drop n out.old) }
         ensures tells { tells self.new ≡ tells self.old }
         ensures folder { folder self.new ≡ folder self.old }
+        ensures cause { HasCause (faults self.old) (faults self.new) result };
+
+    /// Makes an empty file of that name, in place of one that is there. It is not synced. A failed call leaves the file
+    /// as it was, or an empty one.
+    fn create(&mut self, name: &str) -> Result<(), Failed>
+        ensures created { IsTrue (tells self.old) → OnOk result
+            (SetsFile (folder self.old) (folder self.new) name.now (Some (unsynced []))) }
+        ensures failed { IsTrue (tells self.old) → OnErr result
+            (CreatesOrKeeps (folder self.old) (folder self.new) name.now) }
+        ensures tells { tells self.new ≡ tells self.old }
+        ensures cause { HasCause (faults self.old) (faults self.new) result };
+
+    /// Adds the piece at the end of the file of that name, which is not synced then. It fails where there is none. A
+    /// failed call adds a front of the piece, which may be nothing.
+    fn append(&mut self, name: &str, piece: &[u8]) -> Result<(), Failed>
+        ensures found { IsTrue (tells self.old) → OnOk result (IsSome (folder self.old name.now)) }
+        ensures appended { IsTrue (tells self.old) → OnOk result (SetsFile (folder self.old)
+            (folder self.new) name.now (with_more piece.now (folder self.old name.now))) }
+        ensures failed { IsTrue (tells self.old) → OnErr result
+            (AppendsFront (folder self.old) (folder self.new) name.now piece.now) }
+        ensures tells { tells self.new ≡ tells self.old }
+        ensures cause { HasCause (faults self.old) (faults self.new) result };
+
+    /// Brings the file of that name to the disk. It fails where there is none. A failed call changes nothing.
+    fn sync(&mut self, name: &str) -> Result<(), Failed>
+        ensures found { IsTrue (tells self.old) → OnOk result (IsSome (folder self.old name.now)) }
+        ensures synced { IsTrue (tells self.old) → OnOk result (SetsFile (folder self.old)
+            (folder self.new) name.now (with_mark (folder self.old name.now))) }
+        ensures failed { IsTrue (tells self.old) → OnErr result (folder self.new ≡ folder self.old) }
+        ensures tells { tells self.new ≡ tells self.old }
+        ensures cause { HasCause (faults self.old) (faults self.new) result };
+
+    /// Puts the file under another name, with its mark and in place of any other file. It fails where there is no file
+    /// of the name `from`. A failed call changes nothing.
+    fn rename(&mut self, from: &str, to: &str) -> Result<(), Failed>
+        ensures renamed { IsTrue (tells self.old) → OnOk result
+            (Renames (folder self.old) (folder self.new) from.now to.now) }
+        ensures failed { IsTrue (tells self.old) → OnErr result (folder self.new ≡ folder self.old) }
+        ensures tells { tells self.new ≡ tells self.old }
         ensures cause { HasCause (faults self.old) (faults self.new) result };
 }

@@ -1,11 +1,12 @@
 //! A folder in memory, for tests and for proofs that speak of files. Only `new` takes memory: every other call uses a place that
 //! was made there.
-ghost use Rattle.std.specs.Prelude.{◌≡◌, ◌-◌, ◌++◌, ◌↔◌, length, take, drop, min, false, IsTrue, IsErr, IfOk, All};
+ghost use Rattle.std.specs.Prelude.{◌≡◌, ◌-◌, ◌≤◌, ◌++◌, ◌↔◌, [], length, take, drop, min, true, false, IsTrue, IsErr, IsSome, IsNone, IfOk, OnOk, OnErr, All, vec_capacity};
 ghost use Rattle.lo_outside.specs.Files.{size_of, bytes_of};
 ghost use Rattle.lo_outside.specs.Faults.{HasCause};
 ghost use Rattle.lo_outside.specs.Place.{HasRoom};
 ghost use Rattle.lo_outside.specs.FaultPlan.{is_due};
-ghost use Rattle.lo_outside.specs.MemFiles.{file_named, empty_folder, can_put, Puts, after_look, with_plan};
+ghost use Rattle.lo_outside.specs.MemFiles.{file_named, empty_folder, can_put, Sets, Puts, Moves, after_look, after_fault, with_plan};
+ghost use Rattle.lo_outside.specs.MemFiles.{create_fails, append_fails, appended, sync_fails, rename_fails};
 
 use crate::fault_plan::FaultPlan;
 use crate::files::{Failed, Files};
@@ -13,6 +14,7 @@ use crate::place::{NAME_ROOM, Place, position_of};
 use lo_base::NoMemory;
 use std::alloc::Global;
 use std::marker::Model;
+use std::mem;
 
 /// A folder in memory, whose calls fail as they are told to. It takes all its memory when it is made.
 #[derive(Drop)]
@@ -44,6 +46,7 @@ impl Model for MemFiles {
 fn free_places(alloc: Global, count: usize, room: usize) -> Result<Vec<Place>, NoMemory>
     ensures count { IfOk result (λ free. length free.items ≡ count) }
     ensures room { IfOk result (λ free. All (HasRoom room) free.items) }
+    ensures capacity { IfOk result (λ free. count ≤ vec_capacity free) }
 {
     let mut free = Vec::with_capacity(alloc, count)?;
     while free.len() < count {
@@ -87,6 +90,14 @@ impl MemFiles {
         place.set_bytes(bytes);
         self.files.push_reserved(place);
         true
+    }
+
+    /// Whether there is a place for a file of that name, one that it has or a free one.
+    fn has_place(&self, name: &str) -> bool
+        ensures { result ≡ can_put self.now name.now [] }
+    {
+        name.len() <= NAME_ROOM
+            && (position_of(&self.files, name.as_bytes()).is_some() || !self.free.is_empty())
     }
 
     /// Hands over the numbers of the calls of `Files` that are to fail, in place of those handed over before. The calls
@@ -136,5 +147,77 @@ impl Files for MemFiles {
             return Ok(0);
         };
         Ok(self.files[i].read(at, out))
+    }
+
+    fn create(&mut self, name: &str) -> Result<(), Failed>
+        ensures failed { IsErr result ↔ IsTrue (create_fails name.now self.old) }
+        ensures created { OnOk result (Puts (after_look self.old) self.new name.now []) }
+        ensures kept { OnErr result (self.new ≡ after_fault self.old) }
+        ensures cause { HasCause self.old.plan.faults self.new.plan.faults result }
+    {
+        let cannot = !self.has_place(name);
+        self.plan.answer(cannot)?;
+        let _ = self.put(name, b"");
+        Ok(())
+    }
+
+    fn append(&mut self, name: &str, piece: &[u8]) -> Result<(), Failed>
+        ensures failed { IsErr result ↔ IsTrue (append_fails name.now piece.now self.old) }
+        ensures ok { OnOk result (Puts (after_look self.old) self.new
+            name.now (appended name.now piece.now self.old)) }
+        ensures err { OnErr result (IsSome (file_named name.now self.old.files) →
+            Puts (after_fault self.old) self.new
+            name.now (appended name.now piece.now self.old)) }
+        ensures missing { IsNone (file_named name.now self.old.files) →
+            self.new ≡ after_fault self.old }
+        ensures cause { HasCause self.old.plan.faults self.new.plan.faults result }
+    {
+        let Some(i) = position_of(&self.files, name.as_bytes()) else {
+            return self.plan.answer(true);
+        };
+        let free = self.files[i].free();
+        if self.plan.answer(piece.len() > free).is_err() {
+            let n = (piece.len() / 2).min(free);
+            self.files[i].add(&piece[..n]);
+            return Err(Failed);
+        }
+        self.files[i].add(piece);
+        Ok(())
+    }
+
+    fn sync(&mut self, name: &str) -> Result<(), Failed>
+        ensures failed { IsErr result ↔ IsTrue (sync_fails name.now self.old) }
+        ensures synced { OnOk result (Sets (after_look self.old) self.new
+            name.now (record { bytes = bytes_of (file_named name.now self.old.files); synced = true })) }
+        ensures kept { OnErr result (self.new ≡ after_fault self.old) }
+        ensures cause { HasCause self.old.plan.faults self.new.plan.faults result }
+    {
+        let Some(i) = position_of(&self.files, name.as_bytes()) else {
+            return self.plan.answer(true);
+        };
+        self.plan.answer(false)?;
+        self.files[i].sync();
+        Ok(())
+    }
+
+    fn rename(&mut self, from: &str, to: &str) -> Result<(), Failed>
+        ensures failed { IsErr result ↔ IsTrue (rename_fails from.now to.now self.old) }
+        ensures moved { OnOk result (Moves (after_look self.old) self.new from.now to.now) }
+        ensures kept { OnErr result (self.new ≡ after_fault self.old) }
+        ensures cause { HasCause self.old.plan.faults self.new.plan.faults result }
+    {
+        let Some(i) = position_of(&self.files, from.as_bytes()) else {
+            return self.plan.answer(true);
+        };
+        self.plan.answer(to.len() > NAME_ROOM)?;
+        let mut place = self.files.remove(i);
+        place.set_name(to.as_bytes());
+        if let Some(j) = position_of(&self.files, to.as_bytes()) {
+            let other = mem::replace(&mut self.files[j], place);
+            self.free.push_reserved(other);
+        } else {
+            self.files.push_reserved(place);
+        }
+        Ok(())
     }
 }

@@ -1,7 +1,7 @@
 //! The memory for one file of a folder in memory. No call but `new` takes any.
-ghost use Rattle.std.specs.Prelude.{◌≡◌, ◌-◌, ◌≤◌, ◌++◌, length, take, drop, min, false, position, IfOk};
+ghost use Rattle.std.specs.Prelude.{◌≡◌, ◌+◌, ◌-◌, ◌≤◌, ◌++◌, length, take, drop, min, false, position, IfOk};
 ghost use Rattle.std.specs.Str.{bytes_eq};
-ghost use Rattle.lo_outside.specs.Place.{empty_place, has_name, with_name, with_bytes};
+ghost use Rattle.lo_outside.specs.Place.{empty_place, has_name, with_name, with_bytes, with_piece, in_sync};
 
 use lo_base::NoMemory;
 use std::alloc::Global;
@@ -20,7 +20,7 @@ pub(crate) struct Place {
 }
 
 impl Model for Place {
-    ghost use Rattle.std.specs.Prelude.{◌≤◌, vec_capacity};
+    ghost use Rattle.std.specs.Prelude.{◌≤◌, length, vec_capacity};
     ghost use Rattle.lo_outside.specs.Place.{Held};
 
     ghost Value = { Held };
@@ -33,7 +33,8 @@ impl Model for Place {
       room = p.room;
     } };
 
-    ghost invariant = { λ p. (255 ≤ vec_capacity p.name) × (p.room ≤ vec_capacity p.bytes) };
+    ghost invariant = { λ p. (255 ≤ vec_capacity p.name)
+        × (length p.bytes.items ≤ p.room) × (p.room ≤ vec_capacity p.bytes) };
 }
 
 impl Place {
@@ -60,6 +61,13 @@ impl Place {
         self.bytes.len()
     }
 
+    /// How many more bytes have room.
+    pub(crate) fn free(&self) -> usize
+        ensures { length self.now.named.file.bytes + result ≡ self.now.room }
+    {
+        self.room - self.bytes.len()
+    }
+
     /// Gives the place to a file of that name.
     pub(crate) fn set_name(&mut self, name: &[u8])
         requires { length name.now ≤ 255 }
@@ -77,6 +85,22 @@ impl Place {
         self.bytes.clear();
         self.bytes.extend_from_slice(bytes).unwrap();
         self.synced = false;
+    }
+
+    /// Adds bytes at the end of the file, which is not synced then.
+    pub(crate) fn add(&mut self, piece: &[u8])
+        requires { length self.old.named.file.bytes + length piece.now ≤ self.old.room }
+        ensures { self.new ≡ with_piece piece.now self.old }
+    {
+        self.bytes.extend_from_slice(piece).unwrap();
+        self.synced = false;
+    }
+
+    /// Marks the file as synced.
+    pub(crate) fn sync(&mut self)
+        ensures { self.new ≡ in_sync self.old }
+    {
+        self.synced = true;
     }
 
     /// Copies the bytes from `at` on to the front of `out`, as many as there are and as fit.
