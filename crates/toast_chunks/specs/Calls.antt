@@ -40,6 +40,11 @@ pub record Erases (x : Transactions) (s value : ℕ) (bytes : List ℕ) (old new
   pub here : (k : ℕ) → Takes x s (chunk_of k bytes) (versions_of old value k) (versions_of new value k)
   pub others : (n k : ℕ) → n ≢ value → versions_of new n k ≡ versions_of old n k
 
+-- no value but one changes, and no number is given
+pub record ChangesOnly (value : ℕ) (old new : Chunks) : Type 0 where
+  pub next : next_number new ≡ next_number old
+  pub others : (n k : ℕ) → n ≢ value → versions_of new n k ≡ versions_of old n k
+
 -- no other session has an open put or erasure of a value's chunks
 pub record IsFree (x : Transactions) (s : ℕ) (chunks : Chunks) (value : ℕ) : Type 0 where
   pub chunk : (k : ℕ) → lowest_other s (standing x (versions_of chunks value k)) ≡ None

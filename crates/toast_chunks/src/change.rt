@@ -4,7 +4,7 @@ ghost use Rattle.xact_core.specs.Kept.{current};
 ghost use Rattle.xact_core.specs.Transactions.{levels_of};
 ghost use Rattle.row_versions.specs.Looks.{IsLook};
 ghost use Rattle.row_versions.specs.Stands.{standing, lowest_other};
-ghost use Rattle.toast_chunks.specs.Calls.{ChangesChunk, Erases, IsFree, LeavesOwn, Stores, StoresAll};
+ghost use Rattle.toast_chunks.specs.Calls.{ChangesChunk, ChangesOnly, Erases, IsFree, LeavesOwn, Stores, StoresAll};
 ghost use Rattle.toast_chunks.specs.Values.{GoWith, HasValue, has_chunk, last_place, next_number, slice_of, versions_of};
 
 use crate::chunk_key::ChunkKey;
@@ -46,6 +46,8 @@ impl Chunks {
         ensures ok { (bytes : List ℕ) →
             HasValue core.now.xacts (current core.now.xacts s) self.old value bytes →
             OnOk result (Erases core.now.xacts s value bytes self.old self.new) }
+        // Whatever chunks the number has, no other value changes.
+        ensures only { OnOk result (ChangesOnly value self.old self.new) }
         ensures left { LeavesOwn core.now.xacts s self.old self.new }
         ensures goes { GoWith core.now.xacts self.new }
     {
