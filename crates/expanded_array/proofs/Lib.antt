@@ -4,7 +4,7 @@ mod BodyLaws
 mod ColonLaws
 mod Packing
 mod Examples
-mod FlatLaws
+pub mod FlatLaws
 mod Fronts
 mod Growing
 mod Places
