@@ -1,0 +1,15 @@
+pub mod ReaderLaws
+pub mod Loop
+pub mod ColumnLaws
+pub mod ObjectLaws
+pub mod ListLaws
+pub mod TableLists
+pub mod CellLaws
+pub mod RowLaws
+pub mod ChunkLaws
+pub mod TableLaws
+pub mod ValueLaws
+pub mod RowParts
+pub mod OpeningLaws
+pub mod ImageLaws
+pub mod Stays

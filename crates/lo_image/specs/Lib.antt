@@ -1,0 +1,5 @@
+pub mod Opening
+pub mod Image
+pub mod Readers
+pub mod Reading
+pub mod Tables
