@@ -11,6 +11,6 @@ mod Places
 mod ReadLaws
 mod SetLaws
 mod SpellingLaws
-mod TextLaws
+pub mod TextLaws
 mod Uniqueness
 mod Written

@@ -13,3 +13,6 @@ pub mod RowParts
 pub mod OpeningLaws
 pub mod ImageLaws
 pub mod Stays
+pub mod WritingLaws
+pub mod Left
+pub mod WritingRules

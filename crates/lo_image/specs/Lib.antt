@@ -3,3 +3,4 @@ pub mod Image
 pub mod Readers
 pub mod Reading
 pub mod Tables
+pub mod Writing

@@ -10,7 +10,7 @@ ghost use Rattle.lo_image.specs.Reading.{byte_at, counted_at};
 use crate::fault::{Defect, Fault, Stop};
 
 /// PGLOIMG1
-const MAGIC: &[u8] = b"PGLOIMG1";
+pub(crate) const MAGIC: &[u8] = b"PGLOIMG1";
 
 /// The field at the front of the bytes does not hold.
 pub fn fails(kind: Defect, bytes: &[u8]) -> Stop

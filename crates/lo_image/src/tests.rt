@@ -1,4 +1,7 @@
-// Images that are read, and what is wrong of others: one image of an object and one of a table, each changed in one place.
+// Images that are read, and what is wrong of others: an image of an object and one of a table, each changed in one place.
+mod outside;
+mod writing;
+
 use crate::{BadImage, Defect, ImageError, read_image};
 use std::alloc::Global;
 use std::process::Abort;
@@ -11,6 +14,10 @@ enum Change {
     Cut(usize),
     /// Other bytes stand from a place on.
     Put(usize, &'static [u8]),
+    /// So many bytes from two places on stand in each other's place.
+    Swap(usize, usize, usize),
+    /// So many bytes from a place on are zeros.
+    Zeros(usize, usize),
     /// A byte follows.
     More,
 }
@@ -115,6 +122,16 @@ const OF_TABLE: [Case; 35] = [
     (More, Some((71, Extra))),
 ];
 
+fn set(rt: &impl Abort, bytes: &mut [u8], at: usize, index: usize, byte: u8) {
+    let place = at.checked_add(index).expect(rt, "a place");
+    *bytes.get_mut(place).expect(rt, "a byte") = byte;
+}
+
+fn get(rt: &impl Abort, bytes: &[u8], at: usize, index: usize) -> u8 {
+    let place = at.checked_add(index).expect(rt, "a place");
+    *bytes.get(place).expect(rt, "a byte")
+}
+
 /// An image after a change.
 fn changed(rt: &impl Abort, alloc: Global, image: &[u8], change: Change) -> Vec<u8> {
     let mut bytes = Vec::from_slice(alloc, image).expect(rt, "memory");
@@ -123,8 +140,18 @@ fn changed(rt: &impl Abort, alloc: Global, image: &[u8], change: Change) -> Vec<
         Cut(count) => bytes.truncate(count),
         Put(at, piece) => {
             for (index, byte) in piece.iter().enumerate() {
-                let place = at.checked_add(index).expect(rt, "a place");
-                *bytes.get_mut(place).expect(rt, "a byte") = *byte;
+                set(rt, &mut bytes, at, index, *byte);
+            }
+        }
+        Swap(one, two, count) => {
+            for index in 0..count {
+                set(rt, &mut bytes, one, index, get(rt, image, two, index));
+                set(rt, &mut bytes, two, index, get(rt, image, one, index));
+            }
+        }
+        Zeros(at, count) => {
+            for index in 0..count {
+                set(rt, &mut bytes, at, index, 0);
             }
         }
         More => bytes.push(0).expect(rt, "memory"),

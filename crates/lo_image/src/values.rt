@@ -14,10 +14,10 @@ use lo_base::{Bytes, Cell, Cells, ColType, Column, ListOf, RowList, Value, Value
 use std::alloc::Global;
 
 /// The bytes of a full chunk.
-const CHUNK_BYTES: u32 = 1996;
+pub(crate) const CHUNK_BYTES: u32 = 1996;
 
 /// The chunks of a value of that length.
-fn pieces_of(length: u32) -> u64
+pub(crate) fn pieces_of(length: u32) -> u64
     ensures { result ≡ pieces chunk_bytes length }
 {
     (length as u64 + 1995) / 1996
