@@ -1,6 +1,6 @@
 -- The requests of transaction blocks, and `vacuum`: what an engine did is what the row of the request says.
 use Rattle.std.proofs.Common.{◌≡◌, ◌≤◌, ◌<◌, ℕ, pos, ◌-◌, Bool, true, false, List, [], ◌∷◌, ◌++◌, length, take, Option, Some, None, refl, ap, sym, subst, ◌∙◌, arith}
-use Rattle.std.specs.Prelude.{if◌then◌else◌, slice_index_or}
+use Rattle.std.specs.Prelude.{All, IsPermutation, if◌then◌else◌, slice_index_or}
 use Rattle.lo_base.specs.declared.refusal.Cause.{Cause}
 use Rattle.lo_base.specs.declared.refusal.Cause.TheVariants.{NoBlock, InBlock, NoSavepoint}
 use Rattle.lo_base.specs.declared.refusal.Refusal.{Refusal}
@@ -9,19 +9,30 @@ use Rattle.lo_base.specs.declared.reply.Reply.TheVariants.{Word, Refused}
 use Rattle.lo_base.specs.declared.reply.Word.TheVariants as words
 use Rattle.lo_base.specs.declared.request.Request.TheVariants.{Begin, Commit, Rollback, Savepoint, Release, RollbackTo, Vacuum}
 use Rattle.lo_calls.specs.Terms.{when}
+use Rattle.lo_model.specs.Database.{Table}
 use Rattle.lo_model.specs.Edit.{Deed, Edit}
 use Rattle.lo_model.specs.Levels.{released, undone, committed, aborted}
 use Rattle.lo_model.specs.Session.{Session, idle_session, session_released, session_undone}
 use Rattle.lo_model.specs.Transaction.{has_levels, is_open, newest}
+use Rattle.lo_pages.specs.declared.pages.Pages.{Pages}
 use Rattle.lo_pages.specs.Outcome.{first_of}
+use Rattle.lo_pages.specs.Standing as pages
+use Rattle.row_tables.specs.declared.tables.Tables.{Tables}
+use Rattle.row_tables.specs.declared.cursors.Cursors.{Cursors}
+use Rattle.row_tables.specs.Cursors.{HoldsOwn, cursors_of, holds_of}
+use Rattle.row_tables.specs.Standing as tables
+use Rattle.row_versions.specs.declared.base.Core.{Core}
 use Rattle.lo_machine.specs.declared.engine.Engine.{Engine}
-use Rattle.lo_machine.specs.Engine.{clock_of, names_in, HasSession, StandsFor, Leaves, Does, Becomes}
+use Rattle.lo_machine.specs.CallRows.{shared_of}
+use Rattle.lo_machine.specs.Engine.{xacts_of, clock_of, names_in, all_holds, IsNamed, IsEngine, HasSession, Has, StandsFor, Leaves, Does, Becomes}
+use Rattle.lo_machine.specs.Later.{with_session_at}
 use Rattle.lo_machine.specs.Moves.{unturned, session_opened}
-use Rattle.lo_machine.specs.State.{State, Outcome, now, edits, session_of, answered, left_with, refused_in, refused}
+use Rattle.lo_machine.specs.State.{State, Outcome, now, edits, session_of, variables_of, answered, left_with, refused_in, refused}
 use Rattle.lo_machine.specs.Step.{granted_or_refused, tried}
 use Rattle.lo_machine.specs.Terms.{refusal, no_block}
-use Rattle.lo_machine.specs.TransactionRows.{level_named, no_savepoint, level_or_0, begun, rolled_back, released_to, undone_to}
+use Rattle.lo_machine.specs.TransactionRows.{level_named, no_savepoint, level_or_0, begun, committed_in, rolled_back, released_to, undone_to}
 use Rattle.lo_machine.specs.Transactions.{no_level}
+use Rattle.lo_machine.proofs.CallFinds.{same_variables, variables_kept}
 use Rattle.lo_machine.proofs.WellEdits.{session_again}
 use Rattle.lo_machine.proofs.WellSessions.{idle}
 
@@ -38,6 +49,7 @@ pub does_as : (old new : Engine) (s : ℕ) (outcome outcome' : State → Outcome
 does_as old new s outcome outcome' answer same does = record {
   reply = λ st stands. does.reply st stands ∙ ap (λ (done : Outcome). done.reply) (same st stands);
   leaves = λ st stands. subst (Leaves new st s) (same st stands) (does.leaves st stands);
+  rows = does.rows;
   time = does.time;
 }
 
@@ -52,10 +64,14 @@ nothing_does e s answer = record {
     time = stands.time;
     has = record {
       edits = stands.has.edits;
+      rows = stands.has.rows;
       counter = stands.has.counter;
+      tables = stands.has.tables;
       sessions = λ t low high. subst (HasSession e t) (sym (session_again s (session_of st) t)) (stands.has.sessions t low high);
     };
+    variables = same_variables e s (variables_of st) stands.variables;
   };
+  rows = λ rows. rows;
   time = refl;
 }
 
@@ -63,7 +79,12 @@ nothing_does e s answer = record {
 becomes_does : (s : ℕ) (left : List (Option (List ℕ))) (turned : List (Edit Deed) → List (Edit Deed)) (after : Session → Session) (old new : Engine) (answer : Reply) → Becomes s left turned after old new → Does old new s (λ st. left_with st s answer (turned (edits st)) (after (session_of st s))) answer
 becomes_does s left turned after old new answer becomes = record {
   reply = λ st stands. refl;
-  leaves = λ st stands. record { time = becomes.time ∙ stands.time; has = becomes.has (edits st) st.database.counter (session_of st) stands.has };
+  leaves = λ st stands. record {
+    time = becomes.time ∙ stands.time;
+    has = becomes.has (edits st) (shared_of st.database) (session_of st) stands.has;
+    variables = same_variables new s (variables_of st) (variables_kept old new (variables_of st) becomes.variables stands.variables);
+  };
+  rows = becomes.rows;
   time = becomes.time;
 }
 
@@ -188,8 +209,65 @@ module _ (s : ℕ) (low : 1 ≤ s) (high : s ≤ 16) (old : Engine) where
   pub begun_again : 0 < length (names_in old s) → Does old old s (λ st. tried st s Begin) (Word words.Begin)
   begun_again some = does_as old old s _ (λ st. tried st s Begin) (Word words.Begin) (λ st stands. ap (begun st s) (sym (inside some st stands))) (nothing_does old s (Word words.Begin))
 
+  pub committed_outside : names_in old s ≡ [] → Does old old s (λ st. tried st s Commit) (Word words.Commit)
+  committed_outside none = does_as old old s _ (λ st. tried st s Commit) (Word words.Commit) (λ st stands. ap (λ (b : Bool). committed_in st s b (session_of st s).transaction.failed) (sym (outside none st stands))) (nothing_does old s (Word words.Commit))
+
   pub rolled_back_none : names_in old s ≡ [] → Does old old s (λ st. tried st s Rollback) (Word words.Rollback)
   rolled_back_none none = does_as old old s _ (λ st. tried st s Rollback) (Word words.Rollback) (λ st stands. ap (rolled_back st s) (sym (outside none st stands))) (nothing_does old s (Word words.Rollback))
 
   pub refused_outside : (r : Refusal) (top : ℕ) → top ≡ length (names_in old s) → top ≡ 0 → Does old old s (λ st. refused st s r) (Refused r)
   refused_outside r top count none = does_as old old s _ (λ st. refused st s r) (Refused r) (λ st stands. ap (λ (b : Bool). refused_in st s b r) (sym (outside (no_names (names_in old s) (omega (arith, count, none))) st stands))) (nothing_does old s (Refused r))
+
+-- A vacuum: pages and rows stand for what they stood for, and all else stays.
+
+abbrev pub vacuumed : Engine → Core → Pages → Tables → Engine
+vacuumed e core ps ts = record e { core = core; store = record e.store { pages = ps }; tables = ts }
+
+module _ (e : Engine) (core : Core) (same : core ≡ e.core) (ps : Pages) (ts : Tables) (catalog : tables.tables_in ts ≡ tables.tables_in e.tables) (cursors : tables.cursors_in ts ≡ tables.cursors_in e.tables) where
+  pub vacuumed_sound : IsEngine e → pages.GoWith (xacts_of e) ps → IsEngine (vacuumed e core ps ts)
+  vacuumed_sound sound goes' = subst (λ (one : Core). IsEngine (vacuumed e one ps ts)) (sym same) record {
+    goes = goes';
+    whole = sound.whole;
+    counter = sound.counter;
+    undos = sound.undos;
+    flags = sound.flags;
+    sixteen = sound.sixteen;
+    sixteen_lists = sound.sixteen_lists;
+    sixteen_levels = sound.sixteen_levels;
+    placed = sound.placed;
+    held = subst (λ (all : Cursors). IsPermutation (xacts_of e).held (all_holds e.sessions.items ++ holds_of all)) (sym cursors) sound.held;
+    own = subst (λ (all : Cursors). All HoldsOwn all.entries.items) (sym cursors) sound.own;
+    numbered = subst (λ (all : Cursors). (t : ℕ) → (1 ≤ t → 16 < t) → cursors_of t all ≡ []) (sym cursors) sound.numbered;
+    named = subst (λ (all : Cursors). (t : ℕ) → All (IsNamed (tables.tables_in ts)) (cursors_of t all)) (sym cursors) (subst (λ (there : List Table). (t : ℕ) → All (IsNamed there) (cursors_of t (tables.cursors_in e.tables))) (sym catalog) sound.named);
+    first = sound.first;
+  }
+
+  module _ (pages_stand : (ys : List (Edit Deed)) → pages.StandFor (xacts_of e) e.store.pages ys → pages.StandFor (xacts_of e) ps ys) (rows_go : tables.GoWith (xacts_of e) ts) (rows_stand : (ys : List (Edit Deed)) → tables.StandFor (xacts_of e) e.tables ys → tables.StandFor (xacts_of e) ts ys) (s : ℕ) (low : 1 ≤ s) (high : s ≤ 16) (none : names_in e s ≡ []) where
+    has_vacuumed : (st : State) → Has e (edits st) (shared_of st.database) (session_of st) → Has (vacuumed e e.core ps ts) (edits st) (shared_of st.database) (with_session_at s (session_of st s) (session_of st))
+    has_vacuumed st has = record {
+      edits = pages_stand (edits st) has.edits;
+      rows = rows_stand (edits st) has.rows;
+      counter = has.counter;
+      tables = catalog ∙ has.tables;
+      sessions = λ t low' high'. subst (HasSession (vacuumed e e.core ps ts) t) (sym (session_again s (session_of st) t)) (still t (session_of st t) (has.sessions t low' high'));
+    }
+      where
+        still : (t : ℕ) (session : Session) → HasSession e t session → HasSession (vacuumed e e.core ps ts) t session
+        still t session own = record { levels = own.levels; failed = own.failed; descriptors = own.descriptors; cursors = ap (cursors_of t) cursors ∙ own.cursors; leveled = own.leveled }
+
+    answers_vacuum : Does e (vacuumed e e.core ps ts) s (λ st. answered st s (Word words.Vacuum)) (Word words.Vacuum)
+    answers_vacuum = record {
+      reply = λ st stands. refl;
+      leaves = λ st stands. record {
+        time = stands.time;
+        has = has_vacuumed st stands.has;
+        variables = same_variables (vacuumed e e.core ps ts) s (variables_of st) (variables_kept e (vacuumed e e.core ps ts) (variables_of st) refl stands.variables);
+      };
+      rows = λ old. rows_go;
+      time = refl;
+    }
+
+    pub vacuumed_does : Does e (vacuumed e core ps ts) s (λ st. tried st s Vacuum) (Word words.Vacuum)
+    vacuumed_does =
+        subst (λ (one : Core). Does e (vacuumed e one ps ts) s (λ st. tried st s Vacuum) (Word words.Vacuum)) (sym same)
+        (does_as e (vacuumed e e.core ps ts) s (λ st. answered st s (Word words.Vacuum)) (λ st. tried st s Vacuum) (Word words.Vacuum) (λ st stands. ap (λ (b : Bool). granted_or_refused st s Vacuum (first_of (when b InBlock (pos 0) ∷ []))) (sym (outside s low high e none st stands))) answers_vacuum)

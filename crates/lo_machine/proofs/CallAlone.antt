@@ -1,76 +1,51 @@
--- A request on large objects outside a block: its transaction begins, it is called, and the transaction ends.
-use Rattle.std.proofs.Common.{◌≡◌, ◌≤◌, ℕ, ◌-◌, Bool, true, false, List, [], ◌∷◌, ◌++◌, length, None, refl, ap, sym, subst, ◌∙◌, arith, inl, inr}
-use Rattle.std.specs.Prelude.{slice_get, ◌==◌}
-use Rattle.std.proofs.lemmas.Bool.{cases_eq}
-use Rattle.std.proofs.lemmas.Option.{same_Some}
+-- A request that needs a transaction, outside a block: its transaction begins, it is called, and the transaction ends.
+use Rattle.std.proofs.Common.{◌≡◌, ◌≤◌, ℕ, Bool, true, false, List, [], ◌∷◌, ◌++◌, length, Option, Some, None, refl, ap, sym, subst, ◌∙◌, arith}
+use Rattle.std.specs.Prelude.{◌||◌}
 use Rattle.lo_base.specs.declared.refusal.Refusal.{Refusal}
 use Rattle.lo_base.specs.declared.reply.Reply.{Reply}
 use Rattle.lo_base.specs.declared.reply.Reply.TheVariants.{Refused}
 use Rattle.lo_base.specs.declared.request.Request.{Request}
-use Rattle.lo_calls.specs.declared.session.LoSession.{LoSession}
-use Rattle.lo_calls.specs.declared.store.LoStore.{LoStore}
-use Rattle.lo_calls.specs.Descriptors.{descriptors_of}
-use Rattle.lo_calls.specs.World.{World, world, Grants, Refuses, FindsNoMemory}
 use Rattle.lo_model.specs.declared.owner.Owner.{Owner}
 use Rattle.lo_model.specs.declared.owner.Owner.TheVariants.{Running, Committed}
-use Rattle.lo_model.specs.Descriptor.{Descriptor}
-use Rattle.lo_model.specs.Edit.{Deed, Edit, edits_by}
+use Rattle.lo_model.specs.Database.{Table}
+use Rattle.lo_model.specs.Edit.{Deed, edits_by}
 use Rattle.lo_model.specs.Levels.{undone, committed, aborted}
-use Rattle.lo_model.specs.Session.{Session, idle_session, with_descriptors}
+use Rattle.lo_model.specs.Session.{Session, idle_session, session_undone}
 use Rattle.lo_model.specs.Transaction.{has_levels, is_open, top_level}
-use Rattle.lo_pages.specs.Outcome.{LeavesOwn}
-use Rattle.lo_pages.specs.Standing.{StandFor}
-use Rattle.xact_core.specs.Transactions.{Transactions, levels_of}
+use Rattle.lo_pages.specs.Outcome.{first_of}
+use Rattle.xact_core.specs.Kept.{HoldsOthers}
 use Rattle.lo_machine.specs.declared.engine.Engine.{Engine}
-use Rattle.lo_machine.specs.CallRow.{call_row, is_call}
-use Rattle.lo_machine.specs.CallRows.{here, kept_open, called}
-use Rattle.lo_machine.specs.Dispatch.{KeepsOthers, Between}
-use Rattle.lo_machine.specs.Engine.{xacts_of, clock_of, names_in, HasSession, HasSessions, Has, StandsFor, Leaves, Becomes, Loses}
+use Rattle.lo_machine.specs.CallRow.{call_row, is_call, is_on_data, sets}
+use Rattle.lo_machine.specs.CallRows.{Shared, shared_of, shared_by, session_by, here, called}
+use Rattle.lo_machine.specs.Dispatch.{here_in, IsGranted, Grants, Refuses, FindsNoMemory}
+use Rattle.lo_machine.specs.Engine.{xacts_of, clock_of, names_in, HasVariables, with_variables_at, StandsFor, Leaves, Becomes, Loses}
 use Rattle.lo_machine.specs.Later.{with_session_at}
 use Rattle.lo_machine.specs.Moves.{unturned, session_opened}
-use Rattle.lo_machine.specs.State.{State, Outcome, now, edits, session_of, owner_in, refused_in, refused}
+use Rattle.lo_machine.specs.Row.{Here, Row}
+use Rattle.lo_machine.specs.State.{State, Outcome, Variable, now, edits, session_of, variables_of, owner_in, and_made, refused_in}
 use Rattle.lo_machine.specs.Step.{tried}
-use Rattle.lo_machine.proofs.CallSteps.{inner_here, AreQuiet, refused_first, granted_unrefused, granted_reply, granted_has}
+use Rattle.lo_machine.proofs.CallFinds.{set_again, has_same, variables_kept, same_variables, clock_kept, lost_has, lost_variables, has_opened, time_opened, variables_opened, finds_opened, here_opened}
+use Rattle.lo_machine.proofs.CallLevels.{IsAlike, level_free}
 use Rattle.lo_machine.proofs.OpenEdits.{all_none, all_below, committed_both, undone_below}
 use Rattle.lo_machine.proofs.Outcomes.{tried_granted, tried_refused}
-use Rattle.lo_machine.proofs.Readings.{past_later, kept_later}
-use Rattle.lo_machine.proofs.WellEdits.{own_session, session_again}
+use Rattle.lo_machine.proofs.WellEdits.{session_again}
 use Rattle.lo_machine.proofs.WellSessions.{idle}
 
--- an entry set, and set again
+-- a request that needs a transaction is on data
+pub call_on_data : (r : Request) → is_call r ≡ true → is_on_data r ≡ true
+call_on_data r call = ap (λ (b : Bool). b || sets r) call
 
-pub set_again : (s : ℕ) (first second : Session) (sessions : ℕ → Session) (t : ℕ) → with_session_at s second (with_session_at s first sessions) t ≡ with_session_at s second sessions t
-set_again s first second sessions t = by (t == s) refl
-  where
-    by : (b : Bool) → (t == s) ≡ b → with_session_at s second (with_session_at s first sessions) t ≡ with_session_at s second sessions t
-    by true is = rw is refl
-    by false is = rw is refl
+-- a session's variables after a grant that leaves those of the row
+pub granted_variables : (e : Engine) (s : ℕ) (variables : ℕ → List Variable) (own own' : List Variable) → own ≡ own' → HasVariables e (with_variables_at s own variables) → HasVariables e (with_variables_at s own' variables)
+granted_variables e s variables own own' same has = subst (λ (vs : List Variable). HasVariables e (with_variables_at s vs variables)) same has
 
--- Of a call that was refused, or that found no memory, the sessions are left.
-pub calls_left : (s : ℕ) (old new : Engine) (sessions : ℕ → Session) (b : Between s old new) → KeepsOthers s old new → descriptors_of b.own'.descs ≡ descriptors_of b.own.descs → HasSessions old sessions → HasSessions new sessions
-calls_left s old new sessions b keeps same has t low high = record {
-  levels = ap (λ (x : Transactions). levels_of x t) keeps.xacts.rest ∙ (has t low high).levels;
-  failed = rw keeps.failed (has t low high).failed;
-  descriptors = λ one is. elim (cases_eq t s) [
-    | inl own ↦
-        ap (λ (session : LoSession). descriptors_of session.descs) (same_Some one b.own' (sym is ∙ (ap (λ (n : ℕ). slice_get new.sessions.items (n - 1)) own ∙ b.after)))
-        ∙ (same ∙ (has t low high).descriptors b.own (ap (λ (n : ℕ). slice_get old.sessions.items (n - 1)) own ∙ b.before))
-    | inr other ↦ (has t low high).descriptors one (sym (keeps.sessions t low other) ∙ is)
-  ];
-}
+-- what sessions share after two grants of rows that are alike
+pub shared_alike : (a b : Row) → IsAlike a b → shared_by a.granted ≡ shared_by b.granted
+shared_alike a b alike =
+    ap (λ (n : ℕ). record { counter = n; tables = a.granted.tables }) alike.counter
+    ∙ ap (λ (ts : List Table). record { counter = b.granted.counter; tables = ts }) alike.tables
 
--- and of one that was refused the pages too
-pub refused_left : (s : ℕ) (old new : Engine) (ys : List (Edit Deed)) (counter : ℕ) (sessions : ℕ → Session) (b : Between s old new) → KeepsOthers s old new → world (xacts_of new) new.store b.own' ≡ world (xacts_of old) old.store b.own → Has old ys counter sessions → Has new ys counter sessions
-refused_left s old new ys counter sessions b keeps same has = record {
-  edits = subst (λ (w : World). StandFor w.xacts w.store.pages ys) (sym same) has.edits;
-  counter = ap (λ (w : World). w.store.counter) same ∙ has.counter;
-  sessions = calls_left s old new sessions b keeps (ap (λ (w : World). descriptors_of w.session.descs) same) has.sessions;
-}
-
-pub clock_kept : (s : ℕ) (old new : Engine) → KeepsOthers s old new → clock_of new ≡ clock_of old
-clock_kept s old new keeps = ap (λ (x : Transactions). x.clock) keeps.xacts.rest
-
-module _ (s : ℕ) (low : 1 ≤ s) (high : s ≤ 16) (e0 e1 e2 e3 : Engine) (none : names_in e0 s ≡ []) (opens : Becomes s (None ∷ []) unturned (session_opened None) e0 e1) (keeps : KeepsOthers s e1 e2) (b : Between s e1 e2) (number : b.own.s ≡ s) where
+module _ (s : ℕ) (low : 1 ≤ s) (high : s ≤ 16) (e0 e1 e2 : Engine) (none : names_in e0 s ≡ []) (opens : Becomes s (None ∷ []) unturned (session_opened None) e0 e1) (holds : HoldsOthers (xacts_of e1) (xacts_of e2)) where
   module _ (st : State) (stands : StandsFor e0 st) where
     abbrev pub mine : Session
     mine = session_of st s
@@ -81,104 +56,117 @@ module _ (s : ℕ) (low : 1 ≤ s) (high : s ≤ 16) (e0 e1 e2 e3 : Engine) (non
     is_idle : mine ≡ idle_session
     is_idle = idle (now st) (edits st) mine (stands.well.well.each s) none'
 
+    outside : is_open mine.transaction ≡ false
+    outside = ap has_levels none'
+
     abbrev pub opened : Session
     opened = session_opened None mine
 
     abbrev pub sessions1 : ℕ → Session
     sessions1 = with_session_at s opened (session_of st)
 
-    has1 : Has e1 (edits st) st.database.counter sessions1
-    has1 = opens.has (edits st) st.database.counter (session_of st) stands.has
+    abbrev pub shared : Shared
+    shared = shared_of st.database
 
-    time1 : clock_of e1 ≡ now st
-    time1 = opens.time ∙ stands.time
-
-    quiet : AreQuiet (now st) (edits st) opened
-    quiet = record { views = past_later (now st) (session_of st) (edits st) stands.well.well.past; kept = kept_later (now st) (top_level mine.transaction) (edits st) mine.descriptors (stands.well.well.each s).descriptors }
+    time2 : clock_of e2 ≡ now st
+    time2 = clock_kept (xacts_of e1) (xacts_of e2) holds ∙ time_opened s low high e0 st stands None (None ∷ []) e1 opens
 
     -- once its transaction ended, the session is idle as before
-    ended_sessions : HasSessions e3 (with_session_at s idle_session sessions1) → HasSessions e3 (session_of st)
-    ended_sessions has t low' high' = subst (HasSession e3 t) (set_again s opened idle_session (session_of st) t ∙ (ap (λ (session : Session). with_session_at s session (session_of st) t) (sym is_idle) ∙ session_again s (session_of st) t)) (has t low' high')
+    ended_same : (last : Session) (t : ℕ) → with_session_at s idle_session (with_session_at s last sessions1) t ≡ session_of st t
+    ended_same last t =
+        set_again s last idle_session sessions1 t
+        ∙ (set_again s opened idle_session (session_of st) t
+        ∙ (ap (λ (session : Session). with_session_at s session (session_of st) t) (sym is_idle)
+        ∙ session_again s (session_of st) t))
+
+    -- what was there is no edit of its transaction
+    below : undone s 1 (edits st) ≡ edits st
+    below = undone_below s 1 (edits st) (all_below (now st) s 1 (session_of st) (edits st) stands.well.well.past (omega (arith, ap length none')))
 
     module _ (r : Request) (call : is_call r ≡ true) where
+      -- the row as it was read, and as it is of the state
+      abbrev pub read : Row
+      read = call_row r (here_in s e1 (edits st) shared sessions1 (variables_of st))
+
+      abbrev pub row : Row
+      row = call_row r (here st s)
+
+      alike : IsAlike read row
+      alike = subst (λ (h : Here). IsAlike (call_row r h) row) (sym (here_opened s low high e0 st stands None (None ∷ []) e1 opens)) (level_free r call (here st s) (length (names_in e1 s)) (top_level mine.transaction))
+
       -- a call that was granted
-      module _ (reply : Reply) (grants : Grants (call_row r) (world (xacts_of e1) e1.store b.own) (world (xacts_of e2) e2.store b.own') reply) (ends : Becomes s [] (committed s (clock_of e2)) (λ session. idle_session) e2 e3) where
+      module _ (reply : Reply) (grants : Grants s (call_row r) e1 e2 reply) where
+        granted : IsGranted s read e1 e2 reply (edits st) sessions1 (variables_of st)
+        granted = grants.granted (edits st) shared sessions1 (variables_of st) (finds_opened s low high e0 st stands None (None ∷ []) e1 opens)
+
         abbrev pub does : Outcome
-        does = called st s (call_row r (here st s)).granted
+        does = called st s row.granted
 
         is_tried : tried st s r ≡ does
-        is_tried = tried_granted st s r call stands.well.uncounted (granted_unrefused s e1 e2 b number (now st) time1 (edits st) st.database.counter sessions1 has1 low high opened (own_session s opened (session_of st)) quiet r call reply grants (top_level mine.transaction))
+        is_tried = tried_granted st s r (call_on_data r call) stands.well.uncounted (ap first_of (sym alike.refusals) ∙ granted.unrefused)
 
         pub alone_reply : reply ≡ (tried st s r).reply
-        alone_reply = granted_reply s e1 e2 b number (now st) time1 (edits st) st.database.counter sessions1 has1 low high opened (own_session s opened (session_of st)) quiet r call reply grants (top_level mine.transaction) ∙ ap (λ (done : Outcome). done.reply) (sym is_tried)
+        alone_reply = granted.answer ∙ (alike.reply ∙ ap (λ (done : Outcome). done.reply) (sym is_tried))
 
-        pub alone_leaves : Leaves e3 st s (tried st s r)
-        alone_leaves =
-            let has2 = granted_has s e1 e2 b number (now st) time1 (edits st) st.database.counter sessions1 has1 low high opened (own_session s opened (session_of st)) quiet r call reply grants (top_level mine.transaction) keeps in
-            let has3 = ends.has _ _ _ has2 in
+        pub alone_leaves : (e3 : Engine) → Becomes s [] (committed s (clock_of e2)) (λ session. idle_session) e2 e3 → Leaves e3 st s (tried st s r)
+        alone_leaves e3 ends =
+            let has3 = ends.has _ _ _ granted.has in
             subst (Leaves e3 st s) (sym is_tried) record {
-              time = ends.time ∙ (clock_kept s e1 e2 keeps ∙ time1);
-              has = record {
-                edits = subst (StandFor (xacts_of e3) e3.store.pages) all_same has3.edits;
-                counter = has3.counter;
-                sessions = λ t low' high'. subst (HasSession e3 t) (session_same t) (has3.sessions t low' high');
-              };
+              time = ends.time ∙ time2;
+              has = has_same e3 _ _ _ (shared_by row.granted) _ _ all_same (shared_alike read row alike) session_same has3;
+              variables = granted_variables e3 s (variables_of st) _ _ alike.variables (variables_kept e2 e3 _ ends.variables granted.arrays);
             }
           where
-            all_same : committed s (clock_of e2) (edits st ++ edits_by (now st) (Running s (top_level opened.transaction)) (call_row r (here st s)).granted.deeds) ≡ edits st ++ edits_by (now st) (owner_in (now st) s mine.transaction.levels) (call_row r (here st s)).granted.deeds
+            all_same : committed s (clock_of e2) (edits st ++ edits_by (clock_of e1) (Running s (length (names_in e1 s))) read.granted.deeds) ≡ and_made st s row.granted.deeds
             all_same =
-                committed_both s (clock_of e2) (now st) (top_level opened.transaction) (edits st) (call_row r (here st s)).granted.deeds (all_none (now st) s (session_of st) (edits st) stands.well.well.past none')
-                ∙ ap (λ (owner : Owner). edits st ++ edits_by (now st) owner (call_row r (here st s)).granted.deeds) (ap Committed (clock_kept s e1 e2 keeps ∙ time1) ∙ ap (owner_in (now st) s) (sym none'))
+                committed_both s (clock_of e2) (clock_of e1) (length (names_in e1 s)) (edits st) read.granted.deeds (all_none (now st) s (session_of st) (edits st) stands.well.well.past none')
+                ∙ (ap (λ (clock : ℕ). edits st ++ edits_by clock (Committed (clock_of e2)) read.granted.deeds) (time_opened s low high e0 st stands None (None ∷ []) e1 opens)
+                ∙ (ap (λ (ds : List Deed). edits st ++ edits_by (now st) (Committed (clock_of e2)) ds) alike.deeds
+                ∙ ap (λ (owner : Owner). edits st ++ edits_by (now st) owner row.granted.deeds) (ap Committed time2 ∙ ap (owner_in (now st) s) (sym none'))))
 
-            player_same : with_descriptors (kept_open (is_open mine.transaction) mine.descriptors (call_row r (here st s)).granted.descriptors) mine ≡ idle_session
-            player_same = by mine is_idle (call_row r (here st s)).granted.descriptors
-              where
-                by : (session : Session) → session ≡ idle_session → (ds : List Descriptor) → with_descriptors (kept_open (is_open session.transaction) session.descriptors ds) session ≡ idle_session
-                by session is ds = rw is refl
+            by : (session : Session) → is_open session.transaction ≡ false → session_by (is_open session.transaction) row.granted session ≡ session
+            by session is = rw is refl
 
-            session_same : (t : ℕ) → with_session_at s idle_session (with_session_at s (with_descriptors (call_row r (inner_here (now st) s (top_level opened.transaction) (edits st) st.database.counter opened)).granted.descriptors opened) sessions1) t ≡ with_session_at s does.player.session (session_of st) t
-            session_same t = set_again s _ idle_session sessions1 t ∙ (set_again s opened idle_session (session_of st) t ∙ ap (λ (session : Session). with_session_at s session (session_of st) t) (sym player_same))
+            session_same : (t : ℕ) → with_session_at s idle_session (with_session_at s (session_by true read.granted (sessions1 s)) sessions1) t ≡ with_session_at s does.player.session (session_of st) t
+            session_same t =
+                ended_same (session_by true read.granted (sessions1 s)) t
+                ∙ (sym (session_again s (session_of st) t) ∙ ap (λ (session : Session). with_session_at s session (session_of st) t) (sym (by mine outside)))
 
       -- one that was refused
-      module _ (refusal : Refusal) (refuses : Refuses (call_row r) (world (xacts_of e1) e1.store b.own) (world (xacts_of e2) e2.store b.own') refusal) (ends : Becomes s [] (aborted s) (λ session. idle_session) e2 e3) where
-        is_refused : tried st s r ≡ refused st s refusal
-        is_refused = tried_refused st s r refusal call stands.well.uncounted (refused_first s e1 e2 b number (now st) time1 (edits st) st.database.counter sessions1 has1 low high opened (own_session s opened (session_of st)) quiet r call (top_level mine.transaction) refusal refuses)
+      module _ (refusal : Refusal) (refuses : Refuses s (call_row r) e1 e2 refusal) where
+        first : first_of row.refusals ≡ Some refusal
+        first = ap first_of (sym alike.refusals) ∙ refuses.first (edits st) shared sessions1 (variables_of st) (finds_opened s low high e0 st stands None (None ∷ []) e1 opens)
 
-        outside : is_open mine.transaction ≡ false
-        outside = ap has_levels none'
+        is_refused : tried st s r ≡ refused_in st s false refusal
+        is_refused = tried_refused st s r refusal (call_on_data r call) stands.well.uncounted first ∙ ap (λ (open' : Bool). refused_in st s open' refusal) outside
 
         pub alone_refused : Refused refusal ≡ (tried st s r).reply
-        alone_refused = sym (ap (λ (done : Outcome). done.reply) (is_refused ∙ ap (λ (open' : Bool). refused_in st s open' refusal) outside))
+        alone_refused = sym (ap (λ (done : Outcome). done.reply) is_refused)
 
-        pub alone_refused_leaves : Leaves e3 st s (tried st s r)
-        alone_refused_leaves =
-            let has3 = ends.has _ _ _ (refused_left s e1 e2 (edits st) st.database.counter sessions1 b keeps refuses.same has1) in
-            subst (Leaves e3 st s) (sym (is_refused ∙ ap (λ (open' : Bool). refused_in st s open' refusal) outside)) record {
-              time = ends.time ∙ (clock_kept s e1 e2 keeps ∙ time1);
-              has = record {
-                edits = subst (StandFor (xacts_of e3) e3.store.pages) (undone_below s 1 (edits st) (all_below (now st) s 1 (session_of st) (edits st) stands.well.well.past (omega (arith, ap length none')))) has3.edits;
-                counter = has3.counter;
-                sessions = λ t low' high'. subst (HasSession e3 t) (sym (session_again s (session_of st) t)) (ended_sessions has3.sessions t low' high');
-              };
+        pub alone_refused_leaves : (e3 : Engine) → Becomes s [] (aborted s) (λ session. idle_session) e2 e3 → Leaves e3 st s (tried st s r)
+        alone_refused_leaves e3 ends =
+            let has2 = refuses.stays.has (edits st) shared sessions1 (has_opened s low high e0 st stands None (None ∷ []) e1 opens) in
+            let arrays2 = refuses.stays.variables (variables_of st) (variables_opened s low high e0 st stands None (None ∷ []) e1 opens) in
+            subst (Leaves e3 st s) (sym is_refused) record {
+              time = ends.time ∙ time2;
+              has = has_same e3 _ _ shared shared _ _ below refl session_same (ends.has (edits st) shared sessions1 has2);
+              variables = same_variables e3 s (variables_of st) (variables_kept e2 e3 (variables_of st) ends.variables arrays2);
             }
+          where
+            session_same : (t : ℕ) → with_session_at s idle_session sessions1 t ≡ with_session_at s (session_of st s) (session_of st) t
+            session_same t =
+                set_again s opened idle_session (session_of st) t
+                ∙ ap (λ (session : Session). with_session_at s session (session_of st) t) (sym is_idle)
 
-    -- one that found no memory
-    module _ (finds : FindsNoMemory (world (xacts_of e1) e1.store b.own) (world (xacts_of e2) e2.store b.own')) (ends : Becomes s [] (aborted s) (λ session. idle_session) e2 e3) (loses : Loses s 1 e2 e3) where
-      pub alone_stands : StandsFor e3 st
-      alone_stands = record {
-        time = ends.time ∙ (clock_kept s e1 e2 keeps ∙ time1);
-        has = record {
-          edits = subst (StandFor (xacts_of e3) e3.store.pages) (undone_below s 1 (edits st) (all_below (now st) s 1 (session_of st) (edits st) stands.well.well.past (omega (arith, ap length none')))) lost;
-          counter = ap (λ (store : LoStore). store.counter) ends.store ∙ (finds.counter ∙ has1.counter);
-          sessions = ended_sessions (ends.sessions sessions1 (calls_left s e1 e2 sessions1 b keeps finds.session.descriptors has1.sessions));
-        };
-        well = stands.well;
-      }
-        where
-          top : 1 ≡ length (names_in e2 s)
-          top = sym (ap length (ap (λ (x : Transactions). levels_of x s) keeps.xacts.rest ∙ opens.names))
-
-          lost : StandFor (xacts_of e3) e3.store.pages (undone s 1 (edits st))
-          lost = loses.lost e1.store.pages (edits st) top
-              (subst (λ (x : Transactions). LeavesOwn x s e1.store.pages e2.store.pages) (sym finds.xacts) (subst (λ (n : ℕ). LeavesOwn (xacts_of e1) n e1.store.pages e2.store.pages) number finds.pages))
-              (subst (λ (x : Transactions). StandFor x e1.store.pages (edits st)) (sym finds.xacts) has1.edits)
+    -- one that found no memory: its level is undone, and then its transaction
+    module _ (lacks : FindsNoMemory s e1 e2) (e3 e4 : Engine) (names : List (Option (List ℕ))) (undoes : Becomes s names (undone s 1) (session_undone 1 false) e2 e3) (loses : Loses s 1 e2 e3) (ends : Becomes s [] (aborted s) (λ session. idle_session) e3 e4) where
+      pub alone_stands : StandsFor e4 st
+      alone_stands =
+          let has3 = lost_has s 1 e1 e2 e3 (sym (ap length opens.names)) lacks names (session_undone 1 false) undoes loses (edits st) shared sessions1 (has_opened s low high e0 st stands None (None ∷ []) e1 opens) in
+          let arrays3 = lost_variables s 1 e1 e2 e3 (sym (ap length opens.names)) lacks names (session_undone 1 false) undoes loses (variables_of st) (variables_opened s low high e0 st stands None (None ∷ []) e1 opens) in
+          record {
+            time = ends.time ∙ (undoes.time ∙ time2);
+            has = has_same e4 _ _ shared shared _ _ (ap (aborted s) below ∙ below) refl (ended_same (session_undone 1 false (sessions1 s))) (ends.has _ _ _ has3);
+            variables = variables_kept e3 e4 (variables_of st) ends.variables arrays3;
+            well = stands.well;
+          }

@@ -1,9 +1,11 @@
--- What holds of each request on large objects, said of one after another.
+-- What holds of each request on data that is served, said of one after another.
 use Rattle.std.proofs.Common.{◌≡◌, ℕ, ℤ, true, List, Option}
 use Rattle.std.proofs.lemmas.Bool.{false≢true}
 use Rattle.lo_base.specs.declared.request.Request.{Request}
 use Rattle.lo_base.specs.declared.request.Request.TheVariants.{Begin, Commit, Rollback, Savepoint, Release, RollbackTo, CreateTable, Insert, Update, Delete, Get, Ids, Slice, Declare, Fetch, Close, Rewrite, Vacuum, Array, Load, Set, Elem, Show, Vacuumlo, Step, Finish, LoCreat, LoCreate, LoOpen, LoClose, LoRead, LoWrite, LoLseek, LoLseek64, LoTell, LoTell64, LoTruncate, LoTruncate64, LoUnlink, LoGet, LoPut, LoFromBytea}
-use Rattle.lo_machine.specs.CallRow.{is_call}
+use Rattle.lo_machine.specs.CallRow.{is_call, sets}
+
+-- those on large objects
 
 pub record CallCases (P : Request → Type 0) : Type 0 where
   pub creat : (mode : ℤ) → P (LoCreat mode)
@@ -66,3 +68,18 @@ each_call P cases (Show a) call = absurd (false≢true call)
 each_call P cases (Vacuumlo a b) call = absurd (false≢true call)
 each_call P cases Step call = absurd (false≢true call)
 each_call P cases Finish call = absurd (false≢true call)
+
+-- those on array variables
+
+pub record SetCases (P : Request → Type 0) : Type 0 where
+  pub array : (name text : List ℕ) → P (Array name text)
+  pub set : (name : List ℕ) (sub : ℤ) (value : Option ℤ) → P (Set name sub value)
+  pub elem' : (name : List ℕ) (sub : ℤ) → P (Elem name sub)
+  pub show : (name : List ℕ) → P (Show name)
+
+pub each_set : (P : Request → Type 0) → SetCases P → (r : Request) → sets r ≡ true → P r
+each_set P cases (Array name text) set = cases.array name text
+each_set P cases (Set name sub value) set = cases.set name sub value
+each_set P cases (Elem name sub) set = cases.elem' name sub
+each_set P cases (Show name) set = cases.show name
+each_set P cases r set = absurd (false≢true set)

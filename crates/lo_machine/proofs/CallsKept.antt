@@ -1,18 +1,19 @@
--- What a call of a session keeps of its engine: the session is ready for it, and its entry alone is another one after it.
-use Rattle.std.proofs.Common.{◌≡◌, ◌≤◌, ◌<◌, ℕ, ◌+◌, ◌-◌, List, length, Some, ap, sym, subst, ◌∙◌, arith, length-set}
-use Rattle.std.specs.Prelude.{IsPermutation, slice_get, slice_set, Result, IfOk, IfErr}
+-- What a call of a session on large objects keeps of its engine: the session is ready for it, and its entry alone is another
+-- one after it.
+use Rattle.std.proofs.Common.{◌≡◌, ◌≢◌, ◌≤◌, ◌<◌, ℕ, ◌+◌, ◌-◌, List, [], ◌++◌, length, Some, ap, sym, subst, ◌∙◌, arith, length-set}
+use Rattle.std.specs.Prelude.{All, IsPermutation, slice_get, slice_set}
 use Rattle.std.proofs.lemmas.Option.{slice_get_within}
-use Rattle.lo_base.specs.declared.refusal.Denied.{Denied}
-use Rattle.lo_base.specs.declared.reply.Reply.{Reply}
 use Rattle.lo_calls.specs.declared.session.LoSession.{LoSession}
 use Rattle.lo_calls.specs.Descriptors.{AreOpen}
-use Rattle.lo_calls.specs.Row.{Here, Row}
-use Rattle.lo_calls.specs.World.{world, IsReady, Grants, Denies, Keeps}
+use Rattle.lo_calls.specs.World.{world, IsReady, Keeps}
+use Rattle.row_tables.specs.declared.tables.Tables.{Tables}
+use Rattle.row_tables.specs.Cursors.{HoldsOwn, cursors_of, holds_of as cursor_holds}
+use Rattle.row_tables.specs.Standing.{cursors_in, tables_in}
 use Rattle.xact_core.specs.Transactions.{Transactions, levels_of}
 use Rattle.xact_core.proofs.ListPlaces.{set_here, set_other}
 use Rattle.lo_machine.specs.declared.engine.Engine.{Engine}
-use Rattle.lo_machine.specs.Dispatch.{CanCall, KeepsOthers, AnswersCall}
-use Rattle.lo_machine.specs.Engine.{xacts_of, all_holds, IsEngine}
+use Rattle.lo_machine.specs.Dispatch.{CanCall}
+use Rattle.lo_machine.specs.Engine.{xacts_of, names_in, all_holds, views_held, IsEngine, IsNamed}
 use Rattle.lo_machine.specs.Well.{IsFirst}
 use Rattle.lo_machine.proofs.SessionPlaces.{holds_exchanged, placed_exchanged, own_open, placed_open}
 
@@ -33,40 +34,66 @@ is_ready s e own low can stood = record {
     number : own.s ≡ s
     number = own_number s e own low can.sound stood
 
-module _ (s : ℕ) (low : 1 ≤ s) (old new : Engine) (own own' : LoSession) (can : CanCall s old) (stood : slice_get old.sessions.items (s - 1) ≡ Some own) (set : new.sessions.items ≡ slice_set old.sessions.items (s - 1) own') (failed : new.failed ≡ old.failed) (undos : new.undos ≡ old.undos) (keeps : Keeps (world (xacts_of old) old.store own) (world (xacts_of new) new.store own')) where
-  number : own'.s ≡ s
-  number = keeps.session ∙ own_number s old own low can.sound stood
+-- A call of a session. Beside transactions, objects and the session's entry the engine is as it was.
+pub record IsCall (s : ℕ) (old new : Engine) (own own' : LoSession) : Type 0 where
+  pub low : 1 ≤ s
+  pub high : s ≤ 16
+  pub can : CanCall s old
+  pub stood : slice_get old.sessions.items (s - 1) ≡ Some own
+  pub set : new.sessions.items ≡ slice_set old.sessions.items (s - 1) own'
+  pub failed : new.failed ≡ old.failed
+  pub undos : new.undos ≡ old.undos
+  pub tables : new.tables ≡ old.tables
+  pub variables : new.variables ≡ old.variables
+  pub keeps : Keeps (world (xacts_of old) old.store own) (world (xacts_of new) new.store own')
+
+module _ (s : ℕ) (old new : Engine) (own own' : LoSession) (call : IsCall s old new own own') where
+  -- the levels of each session
+  pub same_names : (t : ℕ) → names_in new t ≡ names_in old t
+  same_names t = ap (λ (x : Transactions). levels_of x t) call.keeps.others.rest
+
+  -- what stands at its place, and at those of others
 
   within : s - 1 < length old.sessions.items
-  within = slice_get_within old.sessions.items (s - 1) own stood
+  within = slice_get_within old.sessions.items (s - 1) own call.stood
+
+  pub stands_after : slice_get new.sessions.items (s - 1) ≡ Some own'
+  stands_after = ap (λ (sessions : List LoSession). slice_get sessions (s - 1)) call.set ∙ set_here old.sessions.items (s - 1) own' within
+
+  pub stands_beside : (t : ℕ) → 1 ≤ t → t ≢ s → slice_get new.sessions.items (t - 1) ≡ slice_get old.sessions.items (t - 1)
+  stands_beside t low' other =
+      let low = call.low in
+      ap (λ (sessions : List LoSession). slice_get sessions (t - 1)) call.set ∙ set_other old.sessions.items (s - 1) (t - 1) own' (λ same. other (omega (arith, low, low', same)))
+
+  -- the engine is sound
+
+  number : own'.s ≡ s
+  number = call.keeps.session ∙ own_number s old own call.low call.can.sound call.stood
+
+  held_after : IsPermutation (xacts_of new).held (views_held new)
+  held_after =
+      let cursors = cursor_holds (cursors_in old.tables) in
+      let all = holds_exchanged (xacts_of old).held (xacts_of new).held old.sessions.items (s - 1) own own' cursors call.stood call.keeps.holds call.can.sound.held in
+      subst (λ (tables : Tables). IsPermutation (xacts_of new).held (all_holds new.sessions.items ++ cursor_holds (cursors_in tables))) (sym call.tables)
+      (subst (λ (sessions : List LoSession). IsPermutation (xacts_of new).held (all_holds sessions ++ cursors)) (sym call.set) all)
 
   pub call_sound : IsEngine new
   call_sound = record {
-    goes = keeps.ready.goes;
-    whole = keeps.ready.whole;
-    counter = keeps.ready.counter;
-    undos = undos ∙ (can.sound.undos ∙ sym (ap (λ (x : Transactions). x.undos) keeps.others.rest));
-    flags = ap (λ (flags : _). length flags.items) failed ∙ can.sound.flags;
-    sixteen = ap length set ∙ (length-set old.sessions.items (s - 1) own' ∙ can.sound.sixteen);
-    sixteen_levels = ap (λ (x : Transactions). length x.levels) keeps.others.rest ∙ can.sound.sixteen_levels;
+    goes = call.keeps.ready.goes;
+    whole = call.keeps.ready.whole;
+    counter = call.keeps.ready.counter;
+    undos = call.undos ∙ (call.can.sound.undos ∙ sym (ap (λ (x : Transactions). x.undos) call.keeps.others.rest));
+    flags = ap (λ (flags : _). length flags.items) call.failed ∙ call.can.sound.flags;
+    sixteen = ap length call.set ∙ (length-set old.sessions.items (s - 1) own' ∙ call.can.sound.sixteen);
+    sixteen_lists = ap (λ (lists : _). length lists.items) call.variables ∙ call.can.sound.sixteen_lists;
+    sixteen_levels = ap (λ (x : Transactions). length x.levels) call.keeps.others.rest ∙ call.can.sound.sixteen_levels;
     placed = λ place session is.
         placed_exchanged old.sessions.items (s - 1) own' within
-        (placed_open s (xacts_of new) own' low number (subst (λ (n : ℕ). AreOpen (xacts_of new) n own'.descs) number keeps.ready.descriptors))
-        can.sound.placed place session (ap (λ (sessions : List LoSession). slice_get sessions place) (sym set) ∙ is);
-    held = subst (λ (sessions : List LoSession). IsPermutation (xacts_of new).held (all_holds sessions)) (sym set) (holds_exchanged (xacts_of old).held (xacts_of new).held old.sessions.items (s - 1) own own' stood keeps.holds can.sound.held);
-    first = λ t. subst IsFirst (sym (ap (λ (x : Transactions). levels_of x t) keeps.others.rest)) (can.sound.first t);
+        (placed_open s (xacts_of new) own' call.low number (subst (λ (n : ℕ). AreOpen (xacts_of new) n own'.descs) number call.keeps.ready.descriptors))
+        call.can.sound.placed place session (ap (λ (sessions : List LoSession). slice_get sessions place) (sym call.set) ∙ is);
+    held = held_after;
+    own = subst (λ (tables : Tables). All HoldsOwn (cursors_in tables).entries.items) (sym call.tables) call.can.sound.own;
+    numbered = subst (λ (tables : Tables). (t : ℕ) → (1 ≤ t → 16 < t) → cursors_of t (cursors_in tables) ≡ []) (sym call.tables) call.can.sound.numbered;
+    named = subst (λ (tables : Tables). (t : ℕ) → All (IsNamed (tables_in tables)) (cursors_of t (cursors_in tables))) (sym call.tables) call.can.sound.named;
+    first = λ t. subst IsFirst (sym (same_names t)) (call.can.sound.first t);
   }
-
-  pub call_others : KeepsOthers s old new
-  call_others = record {
-    sessions = λ t low' other. ap (λ (sessions : List LoSession). slice_get sessions (t - 1)) set ∙ set_other old.sessions.items (s - 1) (t - 1) own' (λ same. other (omega (arith, low, low', same)));
-    failed = failed;
-    xacts = keeps.others;
-    views = keeps.views;
-  }
-
-  after : slice_get new.sessions.items (s - 1) ≡ Some own'
-  after = ap (λ (sessions : List LoSession). slice_get sessions (s - 1)) set ∙ set_here old.sessions.items (s - 1) own' within
-
-  pub call_answers : (row : Here → Row) (result : Result Reply Denied) → IfOk result (Grants row (world (xacts_of old) old.store own) (world (xacts_of new) new.store own')) → IfErr result (Denies row (world (xacts_of old) old.store own) (world (xacts_of new) new.store own')) → AnswersCall s row old new result
-  call_answers row result ok err = record { sound = call_sound; keeps = call_others; own = record { own = own; own' = own'; before = stood; after = after }; ok = ok; err = err }

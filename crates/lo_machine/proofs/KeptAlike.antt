@@ -1,5 +1,5 @@
 -- The views that an engine's transactions keep are those that a state keeps for which the engine stands.
-use Rattle.std.proofs.Common.{◌≡◌, ◌<◌, ℕ, zero, suc, ◌+◌, ◌-◌, List, [], ◌∷◌, ◌++◌, length, map, Option, Some, None, refl, ap, sym, subst, ◌∙◌, arith, drop, append_assoc, append-nil}
+use Rattle.std.proofs.Common.{◌≡◌, ◌<◌, ◌≤◌, ℕ, zero, suc, ◌+◌, ◌-◌, List, [], ◌∷◌, ◌++◌, length, map, Option, Some, None, refl, ap, sym, subst, ◌∙◌, arith, drop, append_assoc}
 use Rattle.std.specs.Prelude.{All, IsPermutation, flat_map, slice_get, slice_index_or}
 use Rattle.std.specs.List.{range_with_len}
 use Rattle.std.proofs.lemmas.Bool.{true≢false, false≢true}
@@ -10,7 +10,7 @@ use Rattle.std.proofs.lemmas.Option.{slice_get_within}
 use Rattle.lo_model.specs.declared.viewer.Viewer.TheVariants.{Nobody, Whole, Below}
 use Rattle.lo_model.specs.Descriptor.{Reading, Kept, Current, Descriptor, Cursor, is_current, reading_clock}
 use Rattle.lo_model.specs.Held.{KeptView, kept_view, reading_views, held_by_readers, views_below, held_by_levels, views_kept}
-use Rattle.lo_model.specs.Session.{Session, session_numbers}
+use Rattle.lo_model.specs.Session.{session_numbers}
 use Rattle.lo_model.specs.Transaction.{top_level}
 use Rattle.xact_core.specs.declared.snapshot.Snapshot.{Snapshot}
 use Rattle.xact_core.specs.Kept.{view_at, below_views, session_views, sessions_views, kept_views}
@@ -18,10 +18,14 @@ use Rattle.xact_core.specs.Transactions.{levels_of}
 use Rattle.lo_calls.specs.declared.descs.Descriptor.{Descriptor as Entry}
 use Rattle.lo_calls.specs.declared.session.LoSession.{LoSession}
 use Rattle.lo_calls.specs.Descriptors.{reading_of, described_by, held_by, holds_in, IsOwnHold}
+use Rattle.row_tables.specs.declared.cursors.Cursor.{Cursor as OpenCursor}
+use Rattle.row_tables.specs.Cursors.{holds_in as cursor_holds_in}
+use Rattle.row_tables.specs.Standing.{cursors_in}
 use Rattle.lo_machine.specs.declared.engine.Engine.{Engine}
 use Rattle.lo_machine.specs.Engine.{xacts_of, clock_of, holds_at, all_holds, IsEngine, HasSession, StandsFor, later_view, KeepsViews}
 use Rattle.lo_machine.specs.Later.{later_reading, all_later}
 use Rattle.lo_machine.specs.State.{State, session_of}
+use Rattle.lo_machine.proofs.CursorParts.{map_flat_map, same_parts, holds_by_session, own_holds_later, own_holds as own_cursor_holds}
 use Rattle.lo_machine.proofs.SessionPlaces.{middle_first}
 
 -- the views of a session's levels
@@ -61,11 +65,6 @@ holds_later s (entry ∷ entries) (d ∷ ds) own is =
     ∙ (ap (λ (views : List Snapshot). map later_view (reading_views s d.reading) ++ views) (holds_later s entries ds (λ place e within. own (suc place) e (omega (arith, within))) rest)
     ∙ sym (map-append later_view (reading_views s d.reading) (flat_map (λ (d : Descriptor). reading_views s d.reading) ds)))
 
-readers_later : (s : ℕ) (session : Session) → session.cursors ≡ [] → held_by_readers s session ≡ flat_map (λ (d : Descriptor). reading_views s d.reading) session.descriptors
-readers_later s session none =
-    ap (λ (cursors : List Cursor). flat_map (λ (d : Descriptor). reading_views s d.reading) session.descriptors ++ map (λ (c : Cursor). kept_view c.clock (Whole s)) cursors) none
-    ∙ append-nil (flat_map (λ (d : Descriptor). reading_views s d.reading) session.descriptors)
-
 -- all sessions, from the one of a number on
 
 levels_all : (clock first : ℕ) (levels : List (List (Option (List ℕ)))) (f : ℕ → List Snapshot) → ((place s : ℕ) → s ≡ first + place → place < length levels → session_views clock s (slice_index_or levels place []) ≡ f s) → sessions_views clock first levels ≡ flat_map f (range_with_len first (length levels))
@@ -103,6 +102,12 @@ module _ (e : Engine) (st : State) (sound : IsEngine e) (stands : StandsFor e st
   abbrev for_levels : ℕ → List KeptView
   for_levels s = held_by_levels (clock_of e) s (top_level (session_of st s).transaction)
 
+  abbrev for_descriptors : ℕ → List KeptView
+  for_descriptors s = flat_map (λ (d : Descriptor). reading_views s d.reading) (session_of st s).descriptors
+
+  abbrev for_cursors : ℕ → List KeptView
+  for_cursors s = map (λ (c : Cursor). kept_view c.clock (Whole s)) (session_of st s).cursors
+
   abbrev for_readers : ℕ → List KeptView
   for_readers s = held_by_readers s (session_of st s)
 
@@ -115,7 +120,7 @@ module _ (e : Engine) (st : State) (sound : IsEngine e) (stands : StandsFor e st
       let names = ap (levels_of (xacts_of e)) number ∙ (has place s is (omega (arith, within, sound.sixteen_levels))).levels in
       ap (session_views (clock_of e + 1) s) names ∙ levels_later (clock_of e) s (session_of st s).transaction.levels
 
-  own_holds : (place s : ℕ) (own : LoSession) → s ≡ 1 + place → slice_get e.sessions.items place ≡ Some own → holds_at own ≡ map later_view (for_readers s)
+  own_holds : (place s : ℕ) (own : LoSession) → s ≡ 1 + place → slice_get e.sessions.items place ≡ Some own → holds_at own ≡ map later_view (for_descriptors s)
   own_holds place s own is stood =
       let within = slice_get_within e.sessions.items place own stood in
       let had = has place s is (omega (arith, within, sound.sixteen)) in
@@ -124,17 +129,27 @@ module _ (e : Engine) (st : State) (sound : IsEngine e) (stands : StandsFor e st
       let own_ones = subst (λ (n : ℕ). All (λ (d : Entry). IsOwnHold n d.hold) own.descs.entries.items) number (sound.placed place own stood).holds in
       let described = had.descriptors own (subst (λ (n : ℕ). slice_get e.sessions.items n ≡ Some own) at stood) in
       holds_later s own.descs.entries.items (session_of st s).descriptors own_ones described
-      ∙ sym (ap (map later_view) (readers_later s (session_of st s) (stands.well.well.each s).cursors))
 
   all_levels : sessions_views (clock_of e + 1) 1 (xacts_of e).levels ≡ flat_map (λ (s : ℕ). map later_view (for_levels s)) session_numbers
   all_levels =
       levels_all (clock_of e + 1) 1 (xacts_of e).levels (λ s. map later_view (for_levels s)) own_levels
       ∙ ap (λ (count : ℕ). flat_map (λ (s : ℕ). map later_view (for_levels s)) (range_with_len 1 count)) sound.sixteen_levels
 
-  all_readers : all_holds e.sessions.items ≡ flat_map (λ (s : ℕ). map later_view (for_readers s)) session_numbers
-  all_readers =
-      holds_all 1 e.sessions.items (λ s. map later_view (for_readers s)) own_holds
-      ∙ ap (λ (count : ℕ). flat_map (λ (s : ℕ). map later_view (for_readers s)) (range_with_len 1 count)) sound.sixteen
+  all_descriptors : all_holds e.sessions.items ≡ flat_map (λ (s : ℕ). map later_view (for_descriptors s)) session_numbers
+  all_descriptors =
+      holds_all 1 e.sessions.items (λ s. map later_view (for_descriptors s)) own_holds
+      ∙ ap (λ (count : ℕ). flat_map (λ (s : ℕ). map later_view (for_descriptors s)) (range_with_len 1 count)) sound.sixteen
+
+  abbrev opened : List OpenCursor
+  opened = (cursors_in e.tables).entries.items
+
+  all_cursors : IsPermutation (cursor_holds_in opened) (flat_map (λ (s : ℕ). map later_view (for_cursors s)) session_numbers)
+  all_cursors =
+      subst (IsPermutation (cursor_holds_in opened)) (same_parts (own_cursor_holds opened) (λ (s : ℕ). map later_view (for_cursors s)) 1 16 each)
+      (holds_by_session opened sound.numbered)
+    where
+      each : (s : ℕ) → 1 ≤ s → s < 1 + 16 → own_cursor_holds opened s ≡ map later_view (for_cursors s)
+      each s low high = own_holds_later s opened (session_of st s).cursors sound.own (stands.has.sessions s low (omega (arith, high))).cursors
 
   abbrev levels_first : List Snapshot
   levels_first = flat_map (λ (s : ℕ). map later_view (for_levels s)) session_numbers
@@ -142,12 +157,22 @@ module _ (e : Engine) (st : State) (sound : IsEngine e) (stands : StandsFor e st
   abbrev readers_first : List Snapshot
   readers_first = flat_map (λ (s : ℕ). map later_view (for_readers s)) session_numbers
 
+  all_readers : IsPermutation (all_holds e.sessions.items ++ cursor_holds_in opened) readers_first
+  all_readers =
+      let descriptors_first = flat_map (λ (s : ℕ). map later_view (for_descriptors s)) session_numbers in
+      let cursors_first = flat_map (λ (s : ℕ). map later_view (for_cursors s)) session_numbers in
+      let together = map later_view (flat_map for_readers session_numbers) in
+      rw (all_descriptors, ← map_flat_map later_view for_readers session_numbers)
+      (IsPermutation-trans (descriptors_first ++ cursor_holds_in opened) (descriptors_first ++ cursors_first) together
+      (IsPermutation-append_right descriptors_first (cursor_holds_in opened) cursors_first all_cursors)
+      (IsPermutation-sym together (descriptors_first ++ cursors_first) (parts_apart later_view for_descriptors for_cursors session_numbers)))
+
   abbrev of_sessions : List Snapshot
   of_sessions = map later_view (flat_map (λ (s : ℕ). for_readers s ++ for_levels s) session_numbers)
 
   sessions_alike : IsPermutation (sessions_views (clock_of e + 1) 1 (xacts_of e).levels ++ (xacts_of e).held) of_sessions
   sessions_alike =
-      let held = subst (IsPermutation (xacts_of e).held) all_readers sound.held in
+      let held = IsPermutation-trans (xacts_of e).held (all_holds e.sessions.items ++ cursor_holds_in opened) readers_first sound.held all_readers in
       let parts = IsPermutation-sym of_sessions (readers_first ++ levels_first) (parts_apart later_view for_readers for_levels session_numbers) in
       rw all_levels
       (IsPermutation-trans (levels_first ++ (xacts_of e).held) (levels_first ++ readers_first) of_sessions

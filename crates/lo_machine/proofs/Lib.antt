@@ -1,10 +1,17 @@
 mod ArrayExamples
 pub mod CallAlone
 pub mod CallCases
+pub mod CallFinds
 pub mod CallInBlock
+pub mod CallLevels
 pub mod CallSteps
 pub mod CallsKept
+pub mod ArrayAnswers
+pub mod ArrayCalls
+pub mod ArrayNames
+pub mod ArrayTexts
 mod CursorExamples
+pub mod CursorParts
 mod DescriptorExamples
 pub mod Dispatching
 mod Examples
@@ -15,6 +22,8 @@ pub mod LevelMoves
 pub mod LevelSteps
 pub mod NewEngine
 pub mod NewestLevel
+pub mod ObjectDeeds
+pub mod NoVariables
 mod ObjectExamples
 pub mod OpenEdits
 pub mod Orders

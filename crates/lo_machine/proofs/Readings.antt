@@ -7,13 +7,13 @@ use Rattle.std.proofs.lemmas.List.Elements.{All-head, All-tail, All-weaker}
 use Rattle.lo_model.specs.declared.owner.Owner.{Owner}
 use Rattle.lo_model.specs.declared.owner.Owner.TheVariants.{Running, Committed}
 use Rattle.lo_model.specs.declared.viewer.Viewer.{Viewer}
-use Rattle.lo_model.specs.Descriptor.{Reading, Kept, Current, Descriptor}
+use Rattle.lo_model.specs.Descriptor.{Reading, Kept, Current, Cursor, Descriptor}
 use Rattle.lo_model.specs.Edit.{Deed, Edit}
 use Rattle.lo_model.specs.Numbering.{is_running}
 use Rattle.lo_model.specs.Session.{Session}
 use Rattle.lo_model.specs.View.{has_owner}
 use Rattle.lo_machine.specs.Alike.{SeesNone, ReadsNone}
-use Rattle.lo_machine.specs.Well.{IsOwner, IsPast, IsQuietAt, IsQuiet, IsDescriptor}
+use Rattle.lo_machine.specs.Well.{IsOwner, IsPast, IsQuietAt, IsQuiet, IsCursor, IsDescriptor}
 
 -- what was not made at a clock is below it or not, alike one clock later
 below_later : (clock made : ℕ) → made ≢ clock → nat_lt made (clock + 1) ≡ nat_lt made clock
@@ -52,3 +52,6 @@ kept_later now levels edits ds all = All-weaker (IsDescriptor now edits levels) 
     by : (r : Reading) → IsQuiet now edits r → ReadsNone edits r
     by (Kept c) quiet = quiet_later c edits quiet.1
     by Current quiet = tt
+
+pub cursors_later : (now levels : ℕ) (edits : List (Edit Deed)) (cs : List Cursor) → All (IsCursor now edits levels) cs → All (λ (c : Cursor). SeesNone edits c.clock) cs
+cursors_later now levels edits cs all = All-weaker (IsCursor now edits levels) (λ (c : Cursor). SeesNone edits c.clock) (λ c is. quiet_later c.clock edits is.quiet.1) cs all

@@ -11,7 +11,7 @@ use Rattle.lo_base.specs.declared.request.Request.TheVariants.{Finish, LoCreat, 
 use Rattle.lo_machine.specs.Served.{IsServed}
 use Rattle.lo_machine.specs.State.{State}
 use Rattle.lo_machine.specs.declared.running.Running.TheInside.{Inside}
-use Rattle.lo_machine.specs.Engine.{IsEngine, StandsFor}
+use Rattle.lo_machine.specs.Engine.{IsEngine, HasRows, StandsFor}
 use Rattle.lo_machine.specs.Program.{program_of}
 use Rattle.lo_machine.specs.Replay.{Play, Replays, Advances, moment_of}
 use Rattle.lo_machine.specs.Run.{Moment, start, next_line, one_more, stays_at_line, moment_after, replies_at, replies_from, end_from, replies_of}
@@ -95,6 +95,7 @@ pub record AdvancedBy (s place : ℕ) (request : Request) (reply : Reply) (old n
   pub answer : reply ≡ reply_to (moment_of (play_of old)).state s request
   pub stands : StandsFor new.engine (state_after (moment_of (play_of old)).state s request)
   pub sound : IsEngine new.engine
+  pub rows : HasRows new.engine
   pub moves : stays_at_line (moment_of (play_of old)).state s request ≡ false
 
 moment_more : (s place : ℕ) (request : Request) (reply : Reply) (old new : Inside) → AdvancedBy s place request reply old new → moment_of (play_of new) ≡ moment_after (moment_of (play_of old)) s (Some request)
@@ -134,6 +135,7 @@ advanced s place request reply old new keeps by = record {
       (ap (λ more. replies_of old.programs old.schedule.items ++ more) (sym (replies_at_line s place request reply old new by)));
   stands = subst (λ (m : Moment). StandsFor new.engine m.state) (sym (moment_more s place request reply old new by)) by.stands;
   sound = by.sound;
+  rows = by.rows;
   time =
       ap (λ (m : Moment). m.state.advances) (moment_more s place request reply old new by)
       ∙ (ap (λ (n : ℕ). n + 1) keeps.time ∙ sym (ap (λ (xs : List ℕ). length xs) by.schedule ∙ length-append old.schedule.items (s ∷ [])));
@@ -161,6 +163,7 @@ pub record StaysBy (old new : Inside) : Type 0 where
   pub replies : new.replies.items ≡ old.replies.items
   pub lines_done : new.lines_done.items ≡ old.lines_done.items
   pub sound : IsEngine new.engine
+  pub rows : HasRows new.engine
   pub stands : (st : State) → StandsFor old.engine st → StandsFor new.engine st
 
 same_play : (old new : Inside) → StaysBy old new → play_of new ≡ play_of old
@@ -170,6 +173,7 @@ pub stayed : (old new : Inside) → IsReplay old → StaysBy old new → IsRepla
 stayed old new keeps by = record {
   replays = subst Replays (sym (same_play old new by)) keeps.replays;
   sound = by.sound;
+  rows = by.rows;
   stands = by.stands _ (subst (λ (play : Play). StandsFor old.engine (moment_of play).state) (sym (same_play old new by)) keeps.stands);
   time = ap (λ (play : Play). (moment_of play).state.advances) (same_play old new by) ∙ (keeps.time ∙ ap (λ (xs : List ℕ). length xs) (sym by.schedule));
   sessions = ap (λ (xs : List ℕ). length xs) by.lines_done ∙ keeps.sessions;

@@ -6,10 +6,11 @@ use Rattle.std.proofs.lemmas.List.{map-append, length-map}
 use Rattle.std.proofs.lemmas.List.Elements.{All-head, All-tail}
 use Rattle.std.specs.Option.{IfSome}
 use Rattle.lo_base.specs.declared.request.Request.{Request}
+use Rattle.lo_base.specs.declared.request.Request.TheVariants.{LoCreat, LoCreate, LoOpen, LoClose, LoRead, LoWrite, LoLseek, LoLseek64, LoTell, LoTell64, LoTruncate, LoTruncate64, LoUnlink, LoGet, LoPut, LoFromBytea}
 use Rattle.lo_calls.specs.DescriptorRows.{may_write, open_row, close_row, read_row, write_row, seek_row, tell_row, truncate_row, bytes_at}
 use Rattle.lo_calls.specs.Descriptors.{described_at}
 use Rattle.lo_calls.specs.ObjectRows.{create_row, unlink_row, get_row, put_row, picked, number_for, writes}
-use Rattle.lo_calls.specs.Row.{Here, view_of}
+use Rattle.lo_calls.specs.Row.{Here, Row, view_of}
 use Rattle.lo_calls.specs.Terms.{when, no_oids, busy_for, count_of}
 use Rattle.lo_base.specs.declared.refusal.Cause.TheVariants.{ObjectExists}
 use Rattle.lo_base.specs.declared.refusal.Refusal.{Refusal}
@@ -22,7 +23,9 @@ use Rattle.lo_model.specs.View.{view}
 use Rattle.lo_machine.specs.Alike.{SeesNone, ReadsNone, AreAlike, IsSameRow}
 use Rattle.lo_machine.specs.CallRow.{call_row, is_call}
 use Rattle.lo_machine.specs.Later.{later, later_reading, all_later}
+use Rattle.lo_machine.specs.Row.{on_objects}
 use Rattle.lo_machine.proofs.CallCases.{each_call}
+use Rattle.lo_machine.proofs.ObjectDeeds.{AreOfObjects, close_deeds, create_deeds, get_deeds, open_deeds, put_deeds, read_deeds, seek_deeds, tell_deeds, truncate_deeds, unlink_deeds, write_deeds}
 
 -- descriptors of later views
 
@@ -217,30 +220,108 @@ module _ (n s l l' counter : ℕ) (ds : List Descriptor) (es : List (Edit Deed))
       by None is = record { refusals = rw (at_later fd ds, is) refl; reply = rw (at_later fd ds, is) refl; deeds = rw (at_later fd ds, is) refl; counter = rw (at_later fd ds, is) refl; descriptors = λ same. rw (at_later fd ds, is) refl }
       by (Some d) is = record { refusals = rw (at_later fd ds, is, view_same, current_later d.reading) refl; reply = rw (at_later fd ds, is) refl; deeds = rw (at_later fd ds, is) refl; counter = rw (at_later fd ds, is) refl; descriptors = λ same. rw (at_later fd ds, is) refl }
 
-  row_alike : (r : Request) → is_call r ≡ true → IsSameRow (call_row r) above here
-  row_alike = each_call (λ r. IsSameRow (call_row r) above here) record {
-    creat = λ mode. create 0 [];
-    create = λ o. create o [];
-    open' = open';
-    close = close;
-    read = read;
-    write = write;
-    seek = seek false;
-    seek64 = seek true;
-    tell = tell false;
-    tell64 = tell true;
-    truncate = truncate;
-    truncate64 = truncate;
-    unlink = unlink;
-    get = get;
-    put = put;
-    from_bytea = create;
-  }
+-- a row that answers alike, and whose edits are of objects
+pub record IsObjectsRow (row : Here → Row) : Type 0 where
+  pub alike : (above here : Here) → AreAlike above here → IsSameRow row above here
+  pub deeds : (here : Here) → AreOfObjects (row here).granted.deeds
 
 -- what an engine reads answers as what a state has
-pub rows_alike : (r : Request) → is_call r ≡ true → (above here : Here) → AreAlike above here → IsSameRow (call_row r) above here
-rows_alike r call above here alike =
-    subst (λ (h : Here). IsSameRow (call_row r) h here) (sym (built above here alike)) (row_alike here.now here.session here.level above.level here.counter here.descriptors here.edits alike.views alike.kept r call)
+alike_by : (row : Here → Row) → ((n s l l' counter : ℕ) (ds : List Descriptor) (es : List (Edit Deed)) (views : SeesNone es n) (kept : All (λ (d : Descriptor). ReadsNone es d.reading) ds) → IsSameRow row (record { now = n + 1; session = s; level = l'; descriptors = all_later ds; edits = es; counter = counter }) (record { now = n; session = s; level = l; descriptors = ds; edits = es; counter = counter })) → (above here : Here) → AreAlike above here → IsSameRow row above here
+alike_by row same above here alike =
+    subst (λ (h : Here). IsSameRow row h here) (sym (built above here alike)) (same here.now here.session here.level above.level here.counter here.descriptors here.edits alike.views alike.kept)
   where
     built : (a h : Here) → AreAlike a h → a ≡ record { now = h.now + 1; session = h.session; level = a.level; descriptors = all_later h.descriptors; edits = h.edits; counter = h.counter }
     built a h alike = rw (← alike.now, ← alike.session, ← alike.descriptors, ← alike.edits, ← alike.counter) refl
+
+pub create_alike : (o : ℕ) (bytes : List ℕ) → IsObjectsRow (create_row o bytes)
+create_alike o bytes = record { alike = alike_by (create_row o bytes) (λ n s l l' counter ds es views kept. create n s l l' counter ds es views kept o bytes); deeds = λ here. create_deeds here o bytes }
+
+pub unlink_alike : (o : ℕ) → IsObjectsRow (unlink_row o)
+unlink_alike o = record { alike = alike_by (unlink_row o) (λ n s l l' counter ds es views kept. unlink n s l l' counter ds es views kept o); deeds = λ here. unlink_deeds here o }
+
+pub get_alike : (o : ℕ) (from : ℤ) (count : Option ℤ) → IsObjectsRow (get_row o from count)
+get_alike o from count = record { alike = alike_by (get_row o from count) (λ n s l l' counter ds es views kept. get n s l l' counter ds es views kept o from count); deeds = λ here. get_deeds here o from count }
+
+pub put_alike : (o : ℕ) (at : ℤ) (bytes : List ℕ) → IsObjectsRow (put_row o at bytes)
+put_alike o at bytes = record { alike = alike_by (put_row o at bytes) (λ n s l l' counter ds es views kept. put n s l l' counter ds es views kept o at bytes); deeds = λ here. put_deeds here o at bytes }
+
+pub open_alike : (o : ℕ) (mode : ℤ) → IsObjectsRow (open_row o mode)
+open_alike o mode = record { alike = alike_by (open_row o mode) (λ n s l l' counter ds es views kept. open' n s l l' counter ds es views kept o mode); deeds = λ here. open_deeds here o mode }
+
+pub close_alike : (fd : ℤ) → IsObjectsRow (close_row fd)
+close_alike fd = record { alike = alike_by (close_row fd) (λ n s l l' counter ds es views kept. close n s l l' counter ds es views kept fd); deeds = λ here. close_deeds here fd }
+
+pub read_alike : (fd count : ℤ) → IsObjectsRow (read_row fd count)
+read_alike fd count = record { alike = alike_by (read_row fd count) (λ n s l l' counter ds es views kept. read n s l l' counter ds es views kept fd count); deeds = λ here. read_deeds here fd count }
+
+pub write_alike : (fd : ℤ) (bytes : List ℕ) → IsObjectsRow (write_row fd bytes)
+write_alike fd bytes = record { alike = alike_by (write_row fd bytes) (λ n s l l' counter ds es views kept. write n s l l' counter ds es views kept fd bytes); deeds = λ here. write_deeds here fd bytes }
+
+pub seek_alike : (wide : Bool) (fd offset whence : ℤ) → IsObjectsRow (seek_row wide fd offset whence)
+seek_alike wide fd offset whence = record { alike = alike_by (seek_row wide fd offset whence) (λ n s l l' counter ds es views kept. seek n s l l' counter ds es views kept wide fd offset whence); deeds = λ here. seek_deeds here wide fd offset whence }
+
+pub tell_alike : (wide : Bool) (fd : ℤ) → IsObjectsRow (tell_row wide fd)
+tell_alike wide fd = record { alike = alike_by (tell_row wide fd) (λ n s l l' counter ds es views kept. tell n s l l' counter ds es views kept wide fd); deeds = λ here. tell_deeds here wide fd }
+
+pub truncate_alike : (fd size : ℤ) → IsObjectsRow (truncate_row fd size)
+truncate_alike fd size = record { alike = alike_by (truncate_row fd size) (λ n s l l' counter ds es views kept. truncate n s l l' counter ds es views kept fd size); deeds = λ here. truncate_deeds here fd size }
+
+-- Each request on large objects has a row of lo_calls. What it is of others is of no account.
+abbrev pub objects_row : Request → Here → Row
+objects_row (LoCreat mode) = create_row 0 []
+objects_row (LoCreate o) = create_row o []
+objects_row (LoOpen o mode) = open_row o mode
+objects_row (LoClose fd) = close_row fd
+objects_row (LoRead fd count) = read_row fd count
+objects_row (LoWrite fd bytes) = write_row fd bytes
+objects_row (LoLseek fd offset whence) = seek_row false fd offset whence
+objects_row (LoLseek64 fd offset whence) = seek_row true fd offset whence
+objects_row (LoTell fd) = tell_row false fd
+objects_row (LoTell64 fd) = tell_row true fd
+objects_row (LoTruncate fd size) = truncate_row fd size
+objects_row (LoTruncate64 fd size) = truncate_row fd size
+objects_row (LoUnlink o) = unlink_row o
+objects_row (LoGet o from count) = get_row o from count
+objects_row (LoPut o at bytes) = put_row o at bytes
+objects_row (LoFromBytea o bytes) = create_row o bytes
+objects_row _ = create_row 0 []
+
+pub is_objects_row : (r : Request) → is_call r ≡ true → call_row r ≡ on_objects (objects_row r)
+is_objects_row = each_call (λ r. call_row r ≡ on_objects (objects_row r)) record {
+  creat = λ mode. refl;
+  create = λ o. refl;
+  open' = λ o mode. refl;
+  close = λ fd. refl;
+  read = λ fd count. refl;
+  write = λ fd bytes. refl;
+  seek = λ fd offset whence. refl;
+  seek64 = λ fd offset whence. refl;
+  tell = λ fd. refl;
+  tell64 = λ fd. refl;
+  truncate = λ fd size. refl;
+  truncate64 = λ fd size. refl;
+  unlink = λ o. refl;
+  get = λ o from count. refl;
+  put = λ o at bytes. refl;
+  from_bytea = λ o bytes. refl;
+}
+
+pub objects_alike : (r : Request) → is_call r ≡ true → IsObjectsRow (objects_row r)
+objects_alike = each_call (λ r. IsObjectsRow (objects_row r)) record {
+  creat = λ mode. create_alike 0 [];
+  create = λ o. create_alike o [];
+  open' = open_alike;
+  close = close_alike;
+  read = read_alike;
+  write = write_alike;
+  seek = seek_alike false;
+  seek64 = seek_alike true;
+  tell = tell_alike false;
+  tell64 = tell_alike true;
+  truncate = truncate_alike;
+  truncate64 = truncate_alike;
+  unlink = unlink_alike;
+  get = get_alike;
+  put = put_alike;
+  from_bytea = create_alike;
+}

@@ -12,6 +12,8 @@ use Rattle.xact_core.proofs.ListPlaces.{set_here, set_other}
 use Rattle.lo_calls.specs.declared.descs.Descriptor.{Descriptor}
 use Rattle.lo_calls.specs.declared.session.LoSession.{LoSession}
 use Rattle.lo_calls.specs.Descriptors.{AreOpen, HoldsRest, IsOwnHold}
+use Rattle.row_tables.specs.Cursors.{holds_of as cursor_holds}
+use Rattle.row_tables.specs.Standing.{cursors_in}
 use Rattle.lo_machine.specs.declared.engine.Engine.{Engine}
 use Rattle.lo_machine.specs.Engine.{xacts_of, holds_at, all_holds, IsPlaced, IsEngine}
 
@@ -31,15 +33,18 @@ piece_first f xs i x stood =
 others_same : {X : Type 0} (xs : List X) (i : ℕ) (y : X) → remove (slice_set xs i y) i ≡ remove xs i
 others_same xs i y = rw (take-set xs i y, drop-set-lt (suc i) xs i y (omega arith)) refl
 
--- views that stay held beside those of one session, whose own may be others
-pub holds_exchanged : (before after : List Snapshot) (sessions : List LoSession) (i : ℕ) (own own' : LoSession) → slice_get sessions i ≡ Some own → HoldsRest before after own.descs own'.descs → IsPermutation before (all_holds sessions) → IsPermutation after (all_holds (slice_set sessions i own'))
-holds_exchanged before after sessions i own own' stood rest all =
+-- views that stay held beside those of one session, whose own may be others, and beside some more
+pub holds_exchanged : (before after : List Snapshot) (sessions : List LoSession) (i : ℕ) (own own' : LoSession) (more : List Snapshot) → slice_get sessions i ≡ Some own → HoldsRest before after own.descs own'.descs → IsPermutation before (all_holds sessions ++ more) → IsPermutation after (all_holds (slice_set sessions i own') ++ more)
+holds_exchanged before after sessions i own own' more stood rest all =
     let others = flat_map holds_at (remove sessions i) in
-    let first = rest.rest others (IsPermutation-trans before (all_holds sessions) (holds_at own ++ others) all (piece_first holds_at sessions i own stood)) in
+    let apart : (all_of own_of : List Snapshot) → IsPermutation all_of (own_of ++ others) → IsPermutation (all_of ++ more) (own_of ++ (others ++ more)) =
+    λ all_of own_of same. subst (IsPermutation (all_of ++ more)) (append_assoc own_of others more) (IsPermutation-append_left more all_of (own_of ++ others) same) in
+    let first = rest.rest (others ++ more) (IsPermutation-trans before (all_holds sessions ++ more) (holds_at own ++ (others ++ more)) all (apart (all_holds sessions) (holds_at own) (piece_first holds_at sessions i own stood))) in
     let there = set_here sessions i own' (slice_get_within sessions i own stood) in
     let again : IsPermutation (all_holds (slice_set sessions i own')) (holds_at own' ++ others) =
     subst (λ left. IsPermutation (all_holds (slice_set sessions i own')) (holds_at own' ++ flat_map holds_at left)) (others_same sessions i own') (piece_first holds_at (slice_set sessions i own') i own' there) in
-    IsPermutation-trans after (holds_at own' ++ others) (all_holds (slice_set sessions i own')) first (IsPermutation-sym (all_holds (slice_set sessions i own')) (holds_at own' ++ others) again)
+    let back = apart (all_holds (slice_set sessions i own')) (holds_at own') again in
+    IsPermutation-trans after (holds_at own' ++ (others ++ more)) (all_holds (slice_set sessions i own') ++ more) first (IsPermutation-sym (all_holds (slice_set sessions i own') ++ more) (holds_at own' ++ (others ++ more)) back)
 
 -- what stands at a place then
 pub placed_exchanged : (sessions : List LoSession) (i : ℕ) (own' : LoSession) → i < length sessions → IsPlaced i own' → ((place : ℕ) (session : LoSession) → slice_get sessions place ≡ Some session → IsPlaced place session) → (place : ℕ) (session : LoSession) → slice_get (slice_set sessions i own') place ≡ Some session → IsPlaced place session
@@ -59,11 +64,19 @@ own_open s e own low sound stood =
       most = here.most;
       positions = here.positions;
       holds = subst (λ (n : ℕ). All (λ (d : Descriptor). IsOwnHold n d.hold) own.descs.entries.items) number here.holds;
-      held = record {
-        rest = flat_map holds_at (remove e.sessions.items (s - 1));
-        all = IsPermutation-trans (xacts_of e).held (all_holds e.sessions.items) (holds_at own ++ flat_map holds_at (remove e.sessions.items (s - 1))) sound.held (piece_first holds_at e.sessions.items (s - 1) own stood);
-      };
+      held = record { rest = others ++ cursors; all = all };
     }
+  where
+    others : List Snapshot
+    others = flat_map holds_at (remove e.sessions.items (s - 1))
+
+    cursors : List Snapshot
+    cursors = cursor_holds (cursors_in e.tables)
+
+    all : IsPermutation (xacts_of e).held (holds_at own ++ (others ++ cursors))
+    all =
+        IsPermutation-trans (xacts_of e).held (all_holds e.sessions.items ++ cursors) (holds_at own ++ (others ++ cursors)) sound.held
+        (subst (IsPermutation (all_holds e.sessions.items ++ cursors)) (append_assoc (holds_at own) others cursors) (IsPermutation-append_left cursors (all_holds e.sessions.items) (holds_at own ++ others) (piece_first holds_at e.sessions.items (s - 1) own stood)))
 
 -- and an entry of open descriptors stands at its place
 pub placed_open : (s : ℕ) (x : Transactions) (own : LoSession) → 1 ≤ s → own.s ≡ s → AreOpen x s own.descs → IsPlaced (s - 1) own

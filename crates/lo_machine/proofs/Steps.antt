@@ -1,6 +1,6 @@
 -- A request that is served: a failed block refuses it, or it is tried; and the clock moves on.
 use Rattle.std.proofs.Common.{◌≡◌, ◌≤◌, ℕ, zero, suc, pos, ◌+◌, ◌-◌, Bool, true, false, not, ◌∷◌, Option, None, refl, ap, sym, subst, ◌∙◌}
-use Rattle.std.specs.Prelude.{◌&&◌, is_some, slice_index_or, Ok}
+use Rattle.std.specs.Prelude.{◌&&◌, ◌==◌, if◌then◌else◌, is_some, slice_index_or, Ok}
 use Rattle.std.proofs.lemmas.Bool.{true≢false, false≢true}
 use Rattle.lo_base.specs.declared.refusal.Cause.TheVariants.{Failed}
 use Rattle.lo_base.specs.declared.refusal.Refusal.{Refusal}
@@ -11,14 +11,17 @@ use Rattle.lo_calls.specs.Terms.{when}
 use Rattle.lo_model.specs.Session.{Session}
 use Rattle.lo_pages.specs.Outcome.{first_of}
 use Rattle.lo_pages.proofs.Standing.{go_ticked, stand_ticked}
+use Rattle.row_tables.proofs.Laws.{with_ticked}
+use Rattle.row_tables.proofs.Resting.{for_ticked}
 use Rattle.xact_core.specs.Transactions.{Transactions, levels_of}
 use Rattle.lo_machine.specs.declared.engine.Engine.{Engine}
-use Rattle.lo_machine.specs.Engine.{xacts_of, IsEngine, HasSession, StandsFor, Serves, Leaves, Does}
+use Rattle.lo_machine.specs.Engine.{xacts_of, HasRows, IsEngine, HasSession, with_variables_at, StandsFor, Serves, Leaves, Does}
 use Rattle.lo_machine.specs.Served.{is_served}
-use Rattle.lo_machine.specs.State.{State, Outcome, session_of, refused, with_player, state_with}
+use Rattle.lo_machine.specs.State.{State, Outcome, session_of, variables_of, refused, with_player, state_with}
 use Rattle.lo_machine.specs.Step.{refusals, may_go_on, failed, refusal_of, granted_or_refused, tried, outcome}
 use Rattle.lo_machine.specs.Terms.{refusal}
 use Rattle.lo_machine.specs.Transactions.{may_recover}
+use Rattle.lo_machine.specs.Variables.{IsAs}
 use Rattle.lo_machine.specs.Well.{IsFirst, IsWell}
 use Rattle.lo_machine.proofs.BlockRequests.{does_as, failure_is}
 use Rattle.lo_machine.proofs.WellStates.{player_as, untold, well_after}
@@ -89,23 +92,41 @@ ticked_sound e x is sound = subst (λ (y : Transactions). IsEngine (with_xacts e
   undos = sound.undos;
   flags = sound.flags;
   sixteen = sound.sixteen;
+  sixteen_lists = sound.sixteen_lists;
   sixteen_levels = sound.sixteen_levels;
   placed = sound.placed;
   held = sound.held;
+  own = sound.own;
+  numbered = sound.numbered;
+  named = sound.named;
   first = λ s. subst IsFirst (sym (levels_later (xacts_of e) s)) (sound.first s);
 }
 
 ticked_session : (e : Engine) (s : ℕ) (session : Session) → HasSession e s session → HasSession (with_xacts e (later_at (xacts_of e))) s session
-ticked_session e s session has = record { levels = levels_later (xacts_of e) s ∙ has.levels; failed = has.failed; descriptors = has.descriptors }
+ticked_session e s session has = record { levels = levels_later (xacts_of e) s ∙ has.levels; failed = has.failed; descriptors = has.descriptors; cursors = has.cursors; leveled = has.leveled }
+
+-- a session's variables in the state that an outcome leaves
+variables_as : (st : State) (s : ℕ) (done : Outcome) (t : ℕ) → with_variables_at s done.player.variables (variables_of st) t ≡ (with_player s done.player st.players t).variables
+variables_as st s done t = by (t == s)
+  where
+    by : (b : Bool) → (if b then done.player.variables else (st.players t).variables) ≡ (if b then done.player else st.players t).variables
+    by true = refl
+    by false = refl
+
+pub ticked_rows : (e : Engine) (x : Transactions) → x ≡ later_at (xacts_of e) → HasRows e → HasRows (with_xacts e x)
+ticked_rows e x is goes = with_ticked e.tables (xacts_of e) x (record { is = is }) goes
 
 ticked_stands : (e : Engine) (st : State) (s : ℕ) (done : Outcome) → Leaves e st s done → IsWell (state_with st s done) → StandsFor (with_xacts e (later_at (xacts_of e))) (state_with st s done)
 ticked_stands e st s done leaves well = record {
   time = ap (λ (n : ℕ). n + 1) leaves.time;
   has = record {
     edits = stand_ticked (xacts_of e) (later_at (xacts_of e)) e.store.pages done.database.edits (record { is = refl }) leaves.has.edits;
+    rows = for_ticked e.tables (xacts_of e) (later_at (xacts_of e)) done.database.edits (record { is = refl }) leaves.has.rows;
     counter = leaves.has.counter;
+    tables = leaves.has.tables;
     sessions = λ t low high. ticked_session e t (with_player s done.player st.players t).session (subst (HasSession e t) (player_as st s done t) (leaves.has.sessions t low high));
   };
+  variables = record { each = λ t own low high is. subst (IsAs own) (variables_as st s done t) (leaves.variables.each t own low high is) };
   well = well;
 }
 

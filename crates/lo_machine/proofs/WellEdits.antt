@@ -7,14 +7,14 @@ use Rattle.std.proofs.lemmas.Bool.Decides.{nat_tests}
 use Rattle.std.proofs.lemmas.List.Elements.{All-nil, All-cons, All-head, All-tail, All-append, All-weaker, All-map, All-filter}
 use Rattle.lo_model.specs.declared.owner.Owner.{Owner}
 use Rattle.lo_model.specs.declared.owner.Owner.TheVariants.{Running, Committed}
-use Rattle.lo_model.specs.Descriptor.{Reading, Kept, Current, Descriptor}
+use Rattle.lo_model.specs.Descriptor.{Reading, Kept, Current, Descriptor, Cursor}
 use Rattle.lo_model.specs.Edit.{Deed, Edit, edits_by}
 use Rattle.lo_model.specs.Levels.{is_from_level, stays, owned_by, released, released_owner, undone, committed, committed_owner}
 use Rattle.lo_model.specs.Session.{Session}
 use Rattle.lo_model.specs.Transaction.{top_level}
 use Rattle.lo_machine.specs.Later.{with_session_at}
 use Rattle.lo_machine.specs.State.{owner_in}
-use Rattle.lo_machine.specs.Well.{IsOwner, IsPast, IsQuietAt, IsQuiet, IsDescriptor, IsSession}
+use Rattle.lo_machine.specs.Well.{IsOwner, IsPast, IsQuietAt, IsQuiet, IsDescriptor, IsCursor, IsSession}
 
 -- one session and all others
 
@@ -204,6 +204,12 @@ described_later n old new levels levels' stay d level is = record { level = leve
 pub all_described_later : (n : ℕ) (old new : List (Edit Deed)) (levels levels' : ℕ) → StayQuiet n old new → levels ≤ levels' → (ds : List Descriptor) → All (IsDescriptor n old levels) ds → All (IsDescriptor (n + 1) new levels') ds
 all_described_later n old new levels levels' stay more ds all = All-weaker (IsDescriptor n old levels) (IsDescriptor (n + 1) new levels') (λ d is. described_later n old new levels levels' stay d (omega (arith, more, is.level)) is) ds all
 
+pub cursor_later : (n : ℕ) (old new : List (Edit Deed)) (levels levels' : ℕ) → StayQuiet n old new → (c : Cursor) → c.level ≤ levels' → IsCursor n old levels c → IsCursor (n + 1) new levels' c
+cursor_later n old new levels levels' stay c level is = record { level = level; quiet = reading_later n old new stay (Kept c.clock) is.quiet }
+
+pub all_cursors_later : (n : ℕ) (old new : List (Edit Deed)) (levels levels' : ℕ) → StayQuiet n old new → levels ≤ levels' → (cs : List Cursor) → All (IsCursor n old levels) cs → All (IsCursor (n + 1) new levels') cs
+all_cursors_later n old new levels levels' stay more cs all = All-weaker (IsCursor n old levels) (IsCursor (n + 1) new levels') (λ c is. cursor_later n old new levels levels' stay c (omega (arith, more, is.level)) is) cs all
+
 -- a session that stays as it is
 pub session_later : (n : ℕ) (old new : List (Edit Deed)) → StayQuiet n old new → (session : Session) → IsSession n old session → IsSession (n + 1) new session
 session_later n old new stay session is = record {
@@ -211,5 +217,6 @@ session_later n old new stay session is = record {
   descriptors = all_described_later n old new (top_level session.transaction) (top_level session.transaction) stay (omega arith) session.descriptors is.descriptors;
   none = is.none;
   unfailed = is.unfailed;
-  cursors = is.cursors;
+  cursors = all_cursors_later n old new (top_level session.transaction) (top_level session.transaction) stay (omega arith) session.cursors is.cursors;
+  no_cursors = is.no_cursors;
 }

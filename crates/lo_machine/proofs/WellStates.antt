@@ -10,29 +10,31 @@ use Rattle.lo_base.specs.declared.reply.Reply.{Reply}
 use Rattle.lo_base.specs.declared.reply.Reply.TheVariants.{Word, Refused}
 use Rattle.lo_base.specs.declared.reply.Word.TheVariants as words
 use Rattle.lo_base.specs.declared.request.Request.{Request}
-use Rattle.lo_base.specs.declared.request.Request.TheVariants.{Begin, Commit, Rollback, Savepoint, Release, RollbackTo, LoCreat, LoCreate, LoOpen, LoClose, LoRead, LoWrite, LoLseek, LoLseek64, LoTell, LoTell64, LoTruncate, LoTruncate64, LoUnlink, LoGet, LoPut, LoFromBytea, Vacuum, Step, Finish}
+use Rattle.lo_base.specs.declared.request.Request.TheVariants.{Begin, Commit, Rollback, Savepoint, Release, RollbackTo, LoCreat, LoCreate, LoOpen, LoClose, LoRead, LoWrite, LoLseek, LoLseek64, LoTell, LoTell64, LoTruncate, LoTruncate64, LoUnlink, LoGet, LoPut, LoFromBytea, Vacuum, Step, Finish, Array, Set, Elem, Show}
 use Rattle.lo_calls.specs.DescriptorRows.{may_write, opened_by, open_row, close_row, read_row, write_row, seek_row, tell_row, truncate_row}
 use Rattle.lo_calls.specs.ObjectRows.{create_row, unlink_row, get_row, put_row}
-use Rattle.lo_calls.specs.Row.{Granted}
+use Rattle.lo_calls.specs.Row as objects
 use Rattle.lo_calls.specs.Terms.{when}
 use Rattle.lo_model.specs.declared.owner.Owner.{Owner}
 use Rattle.lo_model.specs.declared.owner.Owner.TheVariants.{Running, Committed}
-use Rattle.lo_model.specs.Descriptor.{Kept, Current, Descriptor, moved_to}
+use Rattle.lo_model.specs.Descriptor.{Kept, Current, Descriptor, Cursor, moved_to}
 use Rattle.lo_model.specs.Edit.{Deed, Edit, edits_by}
 use Rattle.lo_model.specs.Levels.{released, undone, committed, aborted}
-use Rattle.lo_model.specs.Session.{Session, idle_session, session_begun, session_saved, session_released, session_undone, with_descriptors}
+use Rattle.lo_model.specs.Session.{Session, idle_session, session_begun, session_saved, session_released, session_undone}
 use Rattle.lo_model.specs.Transaction.{top_level, has_levels, is_open}
 use Rattle.lo_pages.specs.Outcome.{first_of}
-use Rattle.lo_machine.specs.CallRows.{here, kept_open, called}
+use Rattle.lo_machine.specs.ArrayRows.{array_line, elem_line, set_line, show_line}
+use Rattle.lo_machine.specs.CallRows.{here, kept_open, called, call_granted, session_by}
 use Rattle.lo_machine.specs.Later.{with_session_at}
+use Rattle.lo_machine.specs.Row.{Granted, objects_here, on_objects}
 use Rattle.lo_machine.specs.Served.{is_served}
 use Rattle.lo_machine.specs.State.{State, Outcome, now, edits, session_of, with_player, state_with, answered, left_with, refused_in, refused, owner_in, and_made}
 use Rattle.lo_machine.specs.Step.{refusals, granted, failed, refusal_of, granted_or_refused, told_sweep, state_after}
 use Rattle.lo_machine.specs.Terms.{no_block}
 use Rattle.lo_machine.specs.TransactionRows.{level_named, no_savepoint, level_or_0, begun, rolled_back, committed_in, released_to, undone_to}
-use Rattle.lo_machine.specs.Well.{IsOwner, IsPast, IsQuietAt, IsQuiet, IsDescriptor, IsSession, AreWell, IsWell}
+use Rattle.lo_machine.specs.Well.{IsOwner, IsPast, IsQuietAt, IsQuiet, IsDescriptor, IsCursor, IsSession, AreWell, IsWell}
 use Rattle.lo_machine.proofs.NewestLevel.{newest_bounds}
-use Rattle.lo_machine.proofs.WellEdits.{StayQuiet, own_session, each_session, past_kept, past_released, past_committed, past_undone, past_made, quiet_same, quiet_released, quiet_committed, quiet_undone, quiet_made, quiet_now, all_described_later, session_later}
+use Rattle.lo_machine.proofs.WellEdits.{StayQuiet, own_session, each_session, past_kept, past_released, past_committed, past_undone, past_made, quiet_same, quiet_released, quiet_committed, quiet_undone, quiet_made, quiet_now, all_described_later, all_cursors_later, session_later}
 use Rattle.lo_machine.proofs.WellRows.{close_leaves, unlink_leaves, tell_leaves, truncate_leaves, open_leaves, read_leaves, write_leaves, seek_leaves}
 use Rattle.lo_machine.proofs.WellSessions.{open_top, none_open, idle_well, begun_well, saved_well, released_well, undone_well}
 
@@ -157,14 +159,17 @@ module _ (st : State) (s : ℕ) (well : IsWell st) where
   made_quiet : (deeds : List Deed) → StayQuiet n es (made deeds)
   made_quiet deeds = quiet_made n s names es deeds
 
-  called_good : (granted : Granted) → (All (IsDescriptor (n + 1) (made granted.deeds) (top_level mine.transaction)) mine.descriptors → All (IsDescriptor (n + 1) (made granted.deeds) (top_level mine.transaction)) granted.descriptors) → IsGood st s (called st s granted)
-  called_good granted' leaves = left_good (made granted'.deeds) session (made_quiet granted'.deeds) past is
-    where
-      left : List Descriptor
-      left = kept_open (is_open mine.transaction) mine.descriptors granted'.descriptors
+  abbrev described : (deeds : List Deed) → Descriptor → Type 0
+  described deeds d = IsDescriptor (n + 1) (made deeds) (top_level mine.transaction) d
 
+  abbrev declared : (deeds : List Deed) → Cursor → Type 0
+  declared deeds c = IsCursor (n + 1) (made deeds) (top_level mine.transaction) c
+
+  called_good : (granted : Granted) → (All (described granted.deeds) mine.descriptors → All (described granted.deeds) granted.descriptors) → (All (declared granted.deeds) mine.cursors → All (declared granted.deeds) granted.cursors) → IsGood st s (called st s granted)
+  called_good granted' leaves leaves_cursors = left_good (made granted'.deeds) session (made_quiet granted'.deeds) past is
+    where
       session : Session
-      session = with_descriptors left mine
+      session = session_by (is_open mine.transaction) granted' mine
 
       past : All (IsPast (n + 1) (with_session_at s session sessions)) (made granted'.deeds)
       past =
@@ -172,12 +177,19 @@ module _ (st : State) (s : ℕ) (well : IsWell st) where
           (past_kept n s sessions session es (omega arith) well.well.past)
           (past_made n s (with_session_at s session sessions) names granted'.deeds (ap (λ (one : Session). one.transaction.levels) (sym (own_session s session sessions))))
 
-      before : All (IsDescriptor (n + 1) (made granted'.deeds) (top_level mine.transaction)) mine.descriptors
+      before : All (described granted'.deeds) mine.descriptors
       before = all_described_later n es (made granted'.deeds) (length names) (length names) (made_quiet granted'.deeds) (omega arith) mine.descriptors own.descriptors
 
-      left_described : (inside : Bool) → All (IsDescriptor (n + 1) (made granted'.deeds) (top_level mine.transaction)) (kept_open inside mine.descriptors granted'.descriptors)
+      cursors_before : All (declared granted'.deeds) mine.cursors
+      cursors_before = all_cursors_later n es (made granted'.deeds) (length names) (length names) (made_quiet granted'.deeds) (omega arith) mine.cursors own.cursors
+
+      left_described : (inside : Bool) → All (described granted'.deeds) (kept_open inside mine.descriptors granted'.descriptors)
       left_described false = before
       left_described true = leaves before
+
+      left_declared : (inside : Bool) → All (declared granted'.deeds) (kept_open inside mine.cursors granted'.cursors)
+      left_declared false = cursors_before
+      left_declared true = leaves_cursors cursors_before
 
       is : IsSession (n + 1) (made granted'.deeds) session
       is = record {
@@ -185,11 +197,16 @@ module _ (st : State) (s : ℕ) (well : IsWell st) where
         descriptors = left_described (is_open mine.transaction);
         none = λ empty. ap (λ (levels : List (Option (List ℕ))). kept_open (has_levels levels) mine.descriptors granted'.descriptors) empty ∙ own.none empty;
         unfailed = own.unfailed;
-        cursors = own.cursors;
+        cursors = left_declared (is_open mine.transaction);
+        no_cursors = λ empty. ap (λ (levels : List (Option (List ℕ))). kept_open (has_levels levels) mine.cursors granted'.cursors) empty ∙ own.no_cursors empty;
       }
 
-  abbrev described : (deeds : List Deed) → Descriptor → Type 0
-  described deeds d = IsDescriptor (n + 1) (made deeds) (top_level mine.transaction) d
+  -- a call on large objects, which leaves cursors
+  on_objects_good : (row : objects.Here → objects.Row) → (All (described (row (objects_here (here st s))).granted.deeds) mine.descriptors → All (described (row (objects_here (here st s))).granted.deeds) (row (objects_here (here st s))).granted.descriptors) → IsGood st s (call_granted st s (on_objects row))
+  on_objects_good row leaves = called_good (on_objects row (here st s)).granted leaves (λ all. all)
+
+  abbrev objects_now : objects.Here
+  objects_now = objects_here (here st s)
 
   -- a descriptor at another position, and one that is opened
   moves : (deeds : List Deed) (d : Descriptor) (number position : ℕ) → IsDescriptor (n + 1) (made deeds) (top_level mine.transaction) d → IsDescriptor (n + 1) (made deeds) (top_level mine.transaction) (moved_to number position d)
@@ -199,7 +216,7 @@ module _ (st : State) (s : ℕ) (well : IsWell st) where
       by true = record { level = is.level; quiet = is.quiet }
       by false = is
 
-  opens : (o : ℕ) (mode : ℤ) → IsDescriptor (n + 1) (made []) (top_level mine.transaction) (opened_by (here st s) o mode)
+  opens : (o : ℕ) (mode : ℤ) → IsDescriptor (n + 1) (made []) (top_level mine.transaction) (opened_by objects_now o mode)
   opens o mode = record { level = omega arith; quiet = by (may_write mode) }
     where
       by : (b : Bool) → IsQuiet (n + 1) (made []) (if b then Current else Kept n)
@@ -232,22 +249,26 @@ module _ (st : State) (s : ℕ) (well : IsWell st) where
   all_good (Savepoint name) served none = saved_good (Word words.Savepoint) name (inside [] none)
   all_good (Release name) served none = named (λ found. IsGood st s (released_to st s (level_or_0 found))) name none (λ k low high. released_good (Word words.Release) k low high)
   all_good (RollbackTo name) served none = named (λ found. IsGood st s (undone_to st s (level_or_0 found))) name none (λ k low high. undone_good (Word words.Rollback) k false (omega (arith, low)) high)
-  all_good (LoCreat mode) served none = called_good (create_row 0 [] (here st s)).granted (λ all. all)
-  all_good (LoCreate o) served none = called_good (create_row o [] (here st s)).granted (λ all. all)
-  all_good (LoOpen o mode) served none = called_good (open_row o mode (here st s)).granted (λ all. open_leaves (described []) (here st s) all o mode (opens o mode))
-  all_good (LoClose fd) served none = called_good (close_row fd (here st s)).granted (λ all. close_leaves (described []) (here st s) all fd)
-  all_good (LoRead fd count) served none = called_good (read_row fd count (here st s)).granted (λ all. read_leaves (described (read_row fd count (here st s)).granted.deeds) (here st s) all (moves (read_row fd count (here st s)).granted.deeds) fd count)
-  all_good (LoWrite fd bytes) served none = called_good (write_row fd bytes (here st s)).granted (λ all. write_leaves (described (write_row fd bytes (here st s)).granted.deeds) (here st s) all (moves (write_row fd bytes (here st s)).granted.deeds) fd bytes)
-  all_good (LoLseek fd offset whence) served none = called_good (seek_row false fd offset whence (here st s)).granted (λ all. seek_leaves (described (seek_row false fd offset whence (here st s)).granted.deeds) (here st s) all (moves (seek_row false fd offset whence (here st s)).granted.deeds) false fd offset whence)
-  all_good (LoLseek64 fd offset whence) served none = called_good (seek_row true fd offset whence (here st s)).granted (λ all. seek_leaves (described (seek_row true fd offset whence (here st s)).granted.deeds) (here st s) all (moves (seek_row true fd offset whence (here st s)).granted.deeds) true fd offset whence)
-  all_good (LoTell fd) served none = called_good (tell_row false fd (here st s)).granted (λ all. tell_leaves (described (tell_row false fd (here st s)).granted.deeds) (here st s) all false fd)
-  all_good (LoTell64 fd) served none = called_good (tell_row true fd (here st s)).granted (λ all. tell_leaves (described (tell_row true fd (here st s)).granted.deeds) (here st s) all true fd)
-  all_good (LoTruncate fd size) served none = called_good (truncate_row fd size (here st s)).granted (λ all. truncate_leaves (described (truncate_row fd size (here st s)).granted.deeds) (here st s) all fd size)
-  all_good (LoTruncate64 fd size) served none = called_good (truncate_row fd size (here st s)).granted (λ all. truncate_leaves (described (truncate_row fd size (here st s)).granted.deeds) (here st s) all fd size)
-  all_good (LoUnlink o) served none = called_good (unlink_row o (here st s)).granted (λ all. unlink_leaves (described (unlink_row o (here st s)).granted.deeds) (here st s) all o)
-  all_good (LoGet o from count) served none = called_good (get_row o from count (here st s)).granted (λ all. all)
-  all_good (LoPut o at bytes) served none = called_good (put_row o at bytes (here st s)).granted (λ all. all)
-  all_good (LoFromBytea o bytes) served none = called_good (create_row o bytes (here st s)).granted (λ all. all)
+  all_good (LoCreat mode) served none = on_objects_good (create_row 0 []) (λ all. all)
+  all_good (LoCreate o) served none = on_objects_good (create_row o []) (λ all. all)
+  all_good (LoOpen o mode) served none = on_objects_good (open_row o mode) (λ all. open_leaves (described []) objects_now all o mode (opens o mode))
+  all_good (LoClose fd) served none = on_objects_good (close_row fd) (λ all. close_leaves (described []) objects_now all fd)
+  all_good (LoRead fd count) served none = on_objects_good (read_row fd count) (λ all. read_leaves (described (read_row fd count objects_now).granted.deeds) objects_now all (moves (read_row fd count objects_now).granted.deeds) fd count)
+  all_good (LoWrite fd bytes) served none = on_objects_good (write_row fd bytes) (λ all. write_leaves (described (write_row fd bytes objects_now).granted.deeds) objects_now all (moves (write_row fd bytes objects_now).granted.deeds) fd bytes)
+  all_good (LoLseek fd offset whence) served none = on_objects_good (seek_row false fd offset whence) (λ all. seek_leaves (described (seek_row false fd offset whence objects_now).granted.deeds) objects_now all (moves (seek_row false fd offset whence objects_now).granted.deeds) false fd offset whence)
+  all_good (LoLseek64 fd offset whence) served none = on_objects_good (seek_row true fd offset whence) (λ all. seek_leaves (described (seek_row true fd offset whence objects_now).granted.deeds) objects_now all (moves (seek_row true fd offset whence objects_now).granted.deeds) true fd offset whence)
+  all_good (LoTell fd) served none = on_objects_good (tell_row false fd) (λ all. tell_leaves (described (tell_row false fd objects_now).granted.deeds) objects_now all false fd)
+  all_good (LoTell64 fd) served none = on_objects_good (tell_row true fd) (λ all. tell_leaves (described (tell_row true fd objects_now).granted.deeds) objects_now all true fd)
+  all_good (LoTruncate fd size) served none = on_objects_good (truncate_row fd size) (λ all. truncate_leaves (described (truncate_row fd size objects_now).granted.deeds) objects_now all fd size)
+  all_good (LoTruncate64 fd size) served none = on_objects_good (truncate_row fd size) (λ all. truncate_leaves (described (truncate_row fd size objects_now).granted.deeds) objects_now all fd size)
+  all_good (LoUnlink o) served none = on_objects_good (unlink_row o) (λ all. unlink_leaves (described (unlink_row o objects_now).granted.deeds) objects_now all o)
+  all_good (LoGet o from count) served none = on_objects_good (get_row o from count) (λ all. all)
+  all_good (LoPut o at bytes) served none = on_objects_good (put_row o at bytes) (λ all. all)
+  all_good (LoFromBytea o bytes) served none = on_objects_good (create_row o bytes) (λ all. all)
+  all_good (Array name text) served none = called_good (array_line name text (here st s)).granted (λ all. all) (λ all. all)
+  all_good (Set name sub value) served none = called_good (set_line name sub value (here st s)).granted (λ all. all) (λ all. all)
+  all_good (Elem name sub) served none = called_good (elem_line name sub (here st s)).granted (λ all. all) (λ all. all)
+  all_good (Show name) served none = called_good (show_line name (here st s)).granted (λ all. all) (λ all. all)
   all_good Vacuum served none = answered_good (Word words.Vacuum)
   all_good r served none = absurd (false≢true served)
 

@@ -8,7 +8,7 @@ use Rattle.lo_model.specs.Object.{object_in}
 use Rattle.lo_model.specs.Opening.{Opening, TableRows, ObjectBytes}
 use Rattle.lo_model.specs.Row.{row_in}
 use Rattle.lo_machine.specs.State.{State, committed_edits}
-use Rattle.lo_machine.specs.TableRows.{values_in}
+use Rattle.row_tables.specs.RowRules.{values_in}
 
 abbrev pub committed_object : State → (oid : ℕ) → ObjectBytes
 committed_object st o = record { oid = o; bytes = bytes_or_none (object_in o (committed_edits st)) }

@@ -1,7 +1,7 @@
 -- An engine makes the edits of a request at the present clock and sees them at once, so its views are those of the clock
 -- above. What a state keeps of a view at a clock, an engine keeps at the clock above.
 use Rattle.std.specs.Prelude.{ℕ, ◌+◌, ◌==◌, List, map, if◌then◌else◌}
-use Rattle.lo_model.specs.Descriptor.{Reading, Kept, Current, Descriptor}
+use Rattle.lo_model.specs.Descriptor.{Reading, Kept, Current, Descriptor, Cursor}
 use Rattle.lo_model.specs.Session.{Session}
 
 abbrev pub later_reading : Reading → Reading
@@ -13,6 +13,12 @@ later d = record { number = d.number; oid = d.oid; position = d.position; level 
 
 abbrev pub all_later : List Descriptor → List Descriptor
 all_later descriptors = map later descriptors
+
+abbrev pub later_cursor : Cursor → Cursor
+later_cursor c = record { name = c.name; table = c.table; id = c.id; level = c.level; clock = c.clock + 1 }
+
+abbrev pub all_later_cursors : List Cursor → List Cursor
+all_later_cursors cursors = map later_cursor cursors
 
 -- one session is another one
 abbrev pub with_session_at : (session : ℕ) → Session → (ℕ → Session) → ℕ → Session

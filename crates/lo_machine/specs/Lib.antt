@@ -10,6 +10,7 @@ pub mod Moves
 pub mod NewEngine
 pub mod Program
 pub mod Replay
+pub mod Row
 pub mod Run
 pub mod Running
 pub mod Served
@@ -22,4 +23,5 @@ pub mod Terms
 pub mod TransactionRows
 pub mod Transactions
 pub mod Values
+pub mod Variables
 pub mod Well

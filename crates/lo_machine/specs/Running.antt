@@ -1,6 +1,6 @@
 use Rattle.std.specs.Prelude.{◌≡◌, ℕ, ◌+◌, ◌<◌, ◌≤◌, length, slice_index}
 use Rattle.lo_machine.specs.declared.running.Running.TheInside.{Inside}
-use Rattle.lo_machine.specs.Engine.{IsEngine, StandsFor}
+use Rattle.lo_machine.specs.Engine.{HasRows, IsEngine, StandsFor}
 use Rattle.lo_machine.specs.Program.{program_of}
 use Rattle.lo_machine.specs.Replay.{Play, Replays, moment_of}
 
@@ -11,6 +11,7 @@ play_of r = record { programs = r.programs; schedule = r.schedule.items; replies
 pub record IsReplay (r : Inside) : Type 0 where
   pub replays : Replays (play_of r)
   pub sound : IsEngine r.engine
+  pub rows : HasRows r.engine
   pub stands : StandsFor r.engine (moment_of (play_of r)).state
   pub time : (moment_of (play_of r)).state.advances ≡ length r.schedule.items
   pub sessions : length r.lines_done.items ≡ 16

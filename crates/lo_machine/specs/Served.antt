@@ -1,7 +1,8 @@
--- The requests that are served so far, which the grammar takes: those of transactions and of large objects, and `vacuum`.
+-- The requests that are served so far, which the grammar takes: those of transactions, of large objects and of array variables
+-- alone, and `vacuum`.
 use Rattle.std.specs.Prelude.{◌≡◌, Bool, true, false, All, List}
 use Rattle.lo_base.specs.declared.request.Request.{Request}
-use Rattle.lo_base.specs.declared.request.Request.TheVariants.{Begin, Commit, Rollback, Savepoint, Release, RollbackTo, LoCreat, LoCreate, LoOpen, LoClose, LoRead, LoWrite, LoLseek, LoLseek64, LoTell, LoTell64, LoTruncate, LoTruncate64, LoUnlink, LoGet, LoPut, LoFromBytea, Vacuum}
+use Rattle.lo_base.specs.declared.request.Request.TheVariants.{Begin, Commit, Rollback, Savepoint, Release, RollbackTo, LoCreat, LoCreate, LoOpen, LoClose, LoRead, LoWrite, LoLseek, LoLseek64, LoTell, LoTell64, LoTruncate, LoTruncate64, LoUnlink, LoGet, LoPut, LoFromBytea, Vacuum, Array, Set, Elem, Show}
 use Rattle.lo_machine.specs.Spelled.{IsSpelled}
 
 abbrev pub is_served : Request → Bool
@@ -28,6 +29,10 @@ is_served (LoGet o from length) = true
 is_served (LoPut o at bytes) = true
 is_served (LoFromBytea o bytes) = true
 is_served Vacuum = true
+is_served (Array name text) = true
+is_served (Set name sub value) = true
+is_served (Elem name sub) = true
+is_served (Show name) = true
 is_served _ = false
 
 abbrev pub IsServed : Request → Type 0

@@ -1,6 +1,5 @@
 -- The state between two advances, and what one request makes of it.
 use Rattle.std.specs.Prelude.{ℕ, ◌+◌, ◌==◌, Bool, true, false, List, [], ◌∷◌, ◌++◌, length, Option, Some, None, bytes_eq, if◌then◌else◌}
-use Rattle.std.specs.List.{find}
 use Rattle.expanded_array.specs.Array.{Array}
 use Rattle.lo_base.specs.declared.reply.Reply.{Reply}
 use Rattle.lo_base.specs.declared.reply.Reply.TheVariants.{Refused}
@@ -53,6 +52,9 @@ edits st = st.database.edits
 -- a session in a state
 abbrev pub session_of : State → (session : ℕ) → Session
 session_of st s = (st.players s).session
+
+abbrev pub variables_of : State → (session : ℕ) → List Variable
+variables_of st s = (st.players s).variables
 
 -- the current view of a session, and what is committed
 abbrev pub view_of : State → (session : ℕ) → List (Edit Deed)
@@ -130,7 +132,3 @@ edited st s reply deeds =
 abbrev pub variable_in : (name : List ℕ) → List Variable → Option Array
 variable_in name [] = None
 variable_in name (v ∷ variables) = if bytes_eq v.name name then Some v.array else variable_in name variables
-
--- a table's columns
-abbrev pub table_in : (name : List ℕ) → List Table → Option Table
-table_in name tables = find (λ (t : Table). bytes_eq t.name name) tables

@@ -22,11 +22,14 @@ use Rattle.orphan_sweep.specs.History.{History, begun, and_told, next_act, rest_
 use Rattle.orphan_sweep.specs.Rest.{less}
 use Rattle.lo_machine.specs.State.{State, Outcome, Player, view_of, answered, with_sweep}
 use Rattle.lo_machine.specs.Terms.{in_block}
-use Rattle.lo_machine.specs.Values.{value_under}
 use Rattle.lo_machine.specs.TransactionRows.{begin_granted, commit_granted, rollback_granted}
 use Rattle.lo_calls.specs.ObjectRows.{unlink_row}
+use Rattle.row_tables.specs.Catalog.{columns_in, table_in}
+use Rattle.row_tables.specs.RowRules.{value_under, values_in}
+use Rattle.lo_model.specs.Listing.{ids_in}
+use Rattle.lo_model.specs.Row.{row_in}
 use Rattle.lo_machine.specs.CallRows.{call_refusals, call_granted}
-use Rattle.lo_machine.specs.TableRows.{columns_of, rows_of}
+use Rattle.lo_machine.specs.Row.{on_objects}
 
 -- vacuumlo lists all objects of the current view, and the columns that may name one, by table name and then position.
 
@@ -69,6 +72,13 @@ abbrev pub number_in : Value → List ℕ
 number_in (Oid o) = o ∷ []
 number_in _ = []
 
+abbrev pub columns_of : State → (table : List ℕ) → List Column
+columns_of st name = columns_in (table_in name st.database.tables)
+
+-- the values of all rows of a table, by ascending id
+abbrev pub rows_of : State → (session : ℕ) → (table : List ℕ) → List (List Value)
+rows_of st s name = map (λ i. values_in (row_in name i (view_of st s))) (ids_in name (view_of st s))
+
 abbrev pub found_in : State → (session : ℕ) → (table column : List ℕ) → List ℕ
 found_in st s table column = flat_map (λ row. number_in (value_under column (columns_of st table) row)) (rows_of st s table)
 
@@ -98,13 +108,13 @@ report_in (Some h) = report h (refused_at (acts_of h) h.answers)
 -- step and finish: what the act does. Only an unlink may be refused
 
 abbrev pub act_refusals : State → (session : ℕ) → SweepAct → List (Option Refusal)
-act_refusals st s (acts.Unlink o) = call_refusals st s (unlink_row o)
+act_refusals st s (acts.Unlink o) = call_refusals st s (on_objects (unlink_row o))
 act_refusals st s _ = []
 
 abbrev pub act_granted : State → (session : ℕ) → SweepAct → Outcome
 act_granted st s (acts.Scan table column) = answered st s (scan_reply st s table column)
 act_granted st s acts.Begin = begin_granted st s
-act_granted st s (acts.Unlink o) = call_granted st s (unlink_row o)
+act_granted st s (acts.Unlink o) = call_granted st s (on_objects (unlink_row o))
 act_granted st s acts.Commit = commit_granted st s
 act_granted st s acts.Rollback = rollback_granted st s
 act_granted st s acts.Report = answered st s (report_in (st.players s).sweep)

@@ -1,5 +1,5 @@
 -- Values of rows: how the literals of a request are judged against their columns, and the values that they give.
-use Rattle.std.specs.Prelude.{ℕ, ℤ, pos, ◌+◌, Bool, true, false, not, nat_lt, List, [], ◌∷◌, ◌++◌, Option, Some, None, is_none, codes, bytes_eq, if◌then◌else◌}
+use Rattle.std.specs.Prelude.{ℕ, ℤ, pos, ◌+◌, Bool, true, false, not, List, [], ◌∷◌, ◌++◌, Option, Some, None, is_none, codes, bytes_eq}
 use Rattle.std.specs.List.{find}
 use Rattle.expanded_array.specs.Array.{Array, Empty}
 use Rattle.expanded_array.specs.Flat.{flat_bytes}
@@ -9,17 +9,15 @@ use Rattle.expanded_array.specs.Text.{array_text}
 use Rattle.lo_base.specs.declared.column.Column.{Column}
 use Rattle.lo_base.specs.declared.column.ColType.{ColType}
 use Rattle.lo_base.specs.declared.column.ColType.TheVariants as types
-use Rattle.lo_base.specs.declared.refusal.Cause.TheVariants.{NoVariable, WrongType, RowTooBig}
+use Rattle.lo_base.specs.declared.refusal.Cause.TheVariants.{NoVariable, WrongType}
 use Rattle.lo_base.specs.declared.refusal.Refusal.{Refusal}
-use Rattle.lo_base.specs.declared.request.Assign.{Assign}
 use Rattle.lo_base.specs.declared.value.Cell.{Cell}
 use Rattle.lo_base.specs.declared.value.Cell.TheVariants as cells
 use Rattle.lo_base.specs.declared.value.Literal.{Literal}
 use Rattle.lo_base.specs.declared.value.Literal.TheVariants.{Null, Number, Bytes, ArrayText, Variable as VariableNamed}
 use Rattle.lo_base.specs.declared.value.Value.{Value}
 use Rattle.lo_base.specs.declared.value.Value.TheVariants as values
-use Rattle.toast_plan.specs.Choice.{outside_of, planned_length}
-use Rattle.toast_plan.specs.Layout.{up_to_8}
+use Rattle.toast_plan.specs.Choice.{outside_of}
 use Rattle.toast_plan.specs.Row.{value_lengths}
 use Rattle.lo_machine.specs.State.{Variable, variable_in}
 use Rattle.lo_calls.specs.Terms.{when, is_outside, count_of}
@@ -100,40 +98,9 @@ values_of variables _ _ = []
 abbrev pub plan_of : List Column → List Value → List Bool
 plan_of columns row = outside_of columns (value_lengths row)
 
--- a row that is too big, with its length rounded up to a multiple of 8
-abbrev pub rounded_length : List Column → List Value → ℕ
-rounded_length columns row = up_to_8 (planned_length columns (value_lengths row))
-
-abbrev pub row_limit : ℕ
-row_limit = 8160
-
-abbrev pub row_too_big : List Column → List Value → Option Refusal
-row_too_big columns row = when (nat_lt row_limit (rounded_length columns row)) RowTooBig (pos (rounded_length columns row))
-
--- the column of a name, and the value under it
+-- the column of a name
 abbrev pub column_in : (name : List ℕ) → List Column → Option Column
 column_in name columns = find (λ (c : Column). bytes_eq c.name name) columns
-
-abbrev pub value_under : (name : List ℕ) → List Column → List Value → Value
-value_under name (c ∷ columns) (value ∷ row) = if bytes_eq c.name name then value else value_under name columns row
-value_under name _ _ = values.Null
-
--- Changes of a row. Each names a column, and no two the same one.
-
-abbrev pub change_of : (name : List ℕ) → List Assign → Option Assign
-change_of name changes = find (λ (a : Assign). bytes_eq a.column name) changes
-
-abbrev pub is_named_by : List Assign → Column → Bool
-is_named_by changes c = not (is_none (change_of c.name changes))
-
-abbrev pub changed_value : List Variable → Column → Value → Option Assign → Value
-changed_value variables c value None = value
-changed_value variables c value (Some a) = value_of variables c a.value
-
-abbrev pub changed_row : List Variable → List Assign → List Column → List Value → List Value
-changed_row variables changes (c ∷ columns) (value ∷ row) =
-    changed_value variables c value (change_of c.name changes) ∷ changed_row variables changes columns row
-changed_row variables changes _ _ = []
 
 -- the cell that a value is answered by: an array by its text
 abbrev pub bytes_cell : ColType → List ℕ → Cell

@@ -2,7 +2,7 @@
 use Rattle.std.specs.Prelude.{◌≡◌, ◌≢◌, ◌<◌, ◌≤◌, ℕ, false, List, [], ◌∷◌, All, Option, None}
 use Rattle.lo_model.specs.declared.owner.Owner.{Owner}
 use Rattle.lo_model.specs.declared.owner.Owner.TheVariants.{Running, Committed}
-use Rattle.lo_model.specs.Descriptor.{Reading, Kept, Current, Descriptor}
+use Rattle.lo_model.specs.Descriptor.{Reading, Kept, Current, Descriptor, Cursor}
 use Rattle.lo_model.specs.Edit.{Deed, Edit}
 use Rattle.lo_model.specs.Session.{Session}
 use Rattle.lo_model.specs.Transaction.{top_level}
@@ -23,7 +23,7 @@ pub record IsQuietAt (clock : ℕ) (e : Edit Deed) : Type 0 where
   pub made : e.clock ≢ clock
   pub owner : e.owner ≢ Committed clock
 
--- A view that a descriptor keeps is past. The advance at whose clock it was taken made no edit.
+-- A view that a descriptor or a cursor keeps is past. The advance at whose clock it was taken made no edit.
 abbrev pub IsQuiet : (now : ℕ) → List (Edit Deed) → Reading → Type 0
 IsQuiet now edits (Kept clock) = (clock < now) × All (IsQuietAt clock) edits
 IsQuiet now edits Current = Unit {0}
@@ -38,13 +38,19 @@ pub record IsDescriptor (now : ℕ) (edits : List (Edit Deed)) (levels : ℕ) (d
   pub level : d.level ≤ levels
   pub quiet : IsQuiet now edits d.reading
 
--- a session, which has descriptors and a failure in a block alone
+-- a cursor of a session, which has so many levels
+pub record IsCursor (now : ℕ) (edits : List (Edit Deed)) (levels : ℕ) (c : Cursor) : Type 0 where
+  pub level : c.level ≤ levels
+  pub quiet : IsQuiet now edits (Kept c.clock)
+
+-- a session, which has descriptors, cursors and a failure in a block alone
 pub record IsSession (now : ℕ) (edits : List (Edit Deed)) (session : Session) : Type 0 where
   pub first : IsFirst session.transaction.levels
   pub descriptors : All (IsDescriptor now edits (top_level session.transaction)) session.descriptors
   pub none : session.transaction.levels ≡ [] → session.descriptors ≡ []
   pub unfailed : session.transaction.levels ≡ [] → session.transaction.failed ≡ false
-  pub cursors : session.cursors ≡ []
+  pub cursors : All (IsCursor now edits (top_level session.transaction)) session.cursors
+  pub no_cursors : session.transaction.levels ≡ [] → session.cursors ≡ []
 
 -- edits and sessions before the advance at a clock
 pub record AreWell (now : ℕ) (edits : List (Edit Deed)) (sessions : ℕ → Session) : Type 0 where

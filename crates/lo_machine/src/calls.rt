@@ -1,9 +1,10 @@
-// The requests on large objects. One that writes is done in a level of its own, which is merged into the session's top level
-// once it was done, and undone where it was not. Outside a block each is a transaction of its own.
+// The requests on data: large objects and array variables. One that writes is done in a level of its own, which is merged
+// into the session's top level once it was done, and undone where it was not. Outside a block each is a transaction of its own,
+// but one on array variables alone, which needs none.
 ghost use Rattle.std.specs.Prelude.{◌≡◌, ◌<◌, ◌-◌, length, slice_index_or, true, false, [], IfOk, OnErr};
-ghost use Rattle.lo_machine.specs.CallRow.{call_row, reads, writes, is_call};
+ghost use Rattle.lo_machine.specs.CallRow.{call_row, reads, sets, writes, is_call, is_on_data};
 ghost use Rattle.lo_machine.specs.Dispatch.{CanCall, AnswersCall, ReadsCall, AnswersInBlock};
-ghost use Rattle.lo_machine.specs.Engine.{names_in, IsEngine, Does, Undone, HasRoom};
+ghost use Rattle.lo_machine.specs.Engine.{names_in, HasRows, IsEngine, Does, Undone, HasRoom};
 ghost use Rattle.lo_machine.specs.Served.{IsServed};
 ghost use Rattle.lo_machine.specs.Step.{tried};
 
@@ -14,27 +15,50 @@ use lo_base::{Denied, Name, NoMemory, Reply, Request, SessionNo};
 const OWN_LEVEL: &[u8] = b"request";
 
 impl Engine {
-    /// A request on large objects.
+    /// A request on data.
     pub(crate) fn call(&mut self, s: SessionNo, request: &Request) -> Result<Reply, NoMemory>
         requires sound { IsEngine self.old }
+        requires rows { HasRows self.old }
         requires room { HasRoom self.old }
         requires served { IsServed request.now }
-        requires call { is_call request.now ≡ true }
+        requires data { is_on_data request.now ≡ true }
         requires unfailed { slice_index_or self.old.failed.items (s - 1) false ≡ false }
         ensures sound { IsEngine self.new }
         ensures ok { IfOk result (Does self.old self.new s (λ st. tried st s request.now)) }
         ensures err { OnErr result (Undone self.old self.new) }
     {
-        if self.is_open(s) {
+        if is_setting(request) {
+            self.set(s, request)
+        } else if self.is_open(s) {
             self.call_in_block(s, request)
         } else {
             self.call_alone(s, request)
         }
     }
 
+    /// A request on array variables, which needs no transaction.
+    fn set(&mut self, s: SessionNo, request: &Request) -> Result<Reply, NoMemory>
+        requires sound { IsEngine self.old }
+        requires rows { HasRows self.old }
+        requires room { HasRoom self.old }
+        requires sets { sets request.now ≡ true }
+        ensures sound { IsEngine self.new }
+        ensures ok { IfOk result (Does self.old self.new s (λ st. tried st s request.now)) }
+        ensures err { OnErr result (Undone self.old self.new) }
+    {
+        // Numbers of sessions are from 1 to 16.
+        let _ = s.number();
+        match self.try_set(s, request) {
+            Ok(reply) => Ok(reply),
+            Err(Denied::By(refusal)) => Ok(self.refuse_by(s, refusal)),
+            Err(Denied::NoMemory) => Err(NoMemory),
+        }
+    }
+
     /// A request outside a block, in a transaction of its own.
     fn call_alone(&mut self, s: SessionNo, request: &Request) -> Result<Reply, NoMemory>
         requires sound { IsEngine self.old }
+        requires rows { HasRows self.old }
         requires room { HasRoom self.old }
         requires served { IsServed request.now }
         requires call { is_call request.now ≡ true }
@@ -58,6 +82,7 @@ impl Engine {
                 Ok(Reply::Refused(refusal))
             }
             Err(Denied::NoMemory) => {
+                self.undo(s, 1, false);
                 self.end_aborted(s);
                 Err(NoMemory)
             }
@@ -67,6 +92,7 @@ impl Engine {
     /// A request in a block.
     fn call_in_block(&mut self, s: SessionNo, request: &Request) -> Result<Reply, NoMemory>
         requires sound { IsEngine self.old }
+        requires rows { HasRows self.old }
         requires room { HasRoom self.old }
         requires served { IsServed request.now }
         requires call { is_call request.now ≡ true }
@@ -86,6 +112,7 @@ impl Engine {
     /// A request in a block, which stays as it is where the request is refused.
     fn try_in_block(&mut self, s: SessionNo, request: &Request) -> Result<Reply, Denied>
         requires sound { IsEngine self.old }
+        requires rows { HasRows self.old }
         requires room { HasRoom self.old }
         requires served { IsServed request.now }
         requires call { is_call request.now ≡ true }
@@ -98,13 +125,14 @@ impl Engine {
         if is_writing(request) {
             self.call_in_level(s, request)
         } else {
-            self.look_at_objects(s, request)
+            self.look(s, request)
         }
     }
 
     /// A request that writes, in a level of its own.
     fn call_in_level(&mut self, s: SessionNo, request: &Request) -> Result<Reply, Denied>
         requires sound { IsEngine self.old }
+        requires rows { HasRows self.old }
         requires room { HasRoom self.old }
         requires served { IsServed request.now }
         requires writes { writes request.now ≡ true }
@@ -121,7 +149,7 @@ impl Engine {
             return Err(Denied::NoMemory);
         };
         let level = self.core.xacts.levels(s);
-        match self.change_objects(s, request) {
+        match self.change(s, request) {
             Ok(reply) => {
                 self.merge(s, level);
                 Ok(reply)
@@ -134,7 +162,7 @@ impl Engine {
         }
     }
 
-    /// A request on large objects, in the session's transaction.
+    /// A request that needs a transaction, in the session's.
     fn do_call(&mut self, s: SessionNo, request: &Request) -> Result<Reply, Denied>
         requires can { CanCall s self.old }
         requires served { IsServed request.now }
@@ -142,14 +170,14 @@ impl Engine {
         ensures { AnswersCall s (call_row request.now) self.old self.new result }
     {
         if is_writing(request) {
-            self.change_objects(s, request)
+            self.change(s, request)
         } else {
-            self.look_at_objects(s, request)
+            self.look(s, request)
         }
     }
 
-    /// A request that makes, writes, cuts or takes away an object.
-    fn change_objects(&mut self, s: SessionNo, request: &Request) -> Result<Reply, Denied>
+    /// A request that may make edits.
+    fn change(&mut self, s: SessionNo, request: &Request) -> Result<Reply, Denied>
         requires can { CanCall s self.old }
         requires served { IsServed request.now }
         requires writes { writes request.now ≡ true }
@@ -169,7 +197,7 @@ impl Engine {
     }
 
     /// A request that makes no edit.
-    fn look_at_objects(&mut self, s: SessionNo, request: &Request) -> Result<Reply, Denied>
+    fn look(&mut self, s: SessionNo, request: &Request) -> Result<Reply, Denied>
         requires can { CanCall s self.old }
         requires reads { reads request.now ≡ true }
         ensures { ReadsCall s (call_row request.now) self.old self.new result }
@@ -185,6 +213,22 @@ impl Engine {
             Request::LoTell(fd) => self.tell(s, *fd, false),
             Request::LoTell64(fd) => self.tell(s, *fd, true),
             Request::LoGet(oid, from, length) => self.get(s, *oid, *from, *length),
+            _ => unreachable!(),
+        }
+    }
+
+    /// One on array variables.
+    fn try_set(&mut self, s: SessionNo, request: &Request) -> Result<Reply, Denied>
+        requires sound { IsEngine self.old }
+        requires rows { HasRows self.old }
+        requires sets { sets request.now ≡ true }
+        ensures { ReadsCall s (call_row request.now) self.old self.new result }
+    {
+        match request {
+            Request::Array(name, text) => self.make_array(s, name, text.items()),
+            Request::Set(name, sub, value) => self.set_element(s, name, *sub, *value),
+            Request::Elem(name, sub) => self.element(s, name, *sub),
+            Request::Show(name) => self.show(s, name),
             _ => unreachable!(),
         }
     }
@@ -204,5 +248,15 @@ fn is_writing(request: &Request) -> bool
             | Request::LoUnlink(_)
             | Request::LoPut(_, _, _)
             | Request::LoFromBytea(_, _)
+    )
+}
+
+/// Whether a request is on array variables alone.
+fn is_setting(request: &Request) -> bool
+    ensures { result ≡ sets request.now }
+{
+    matches!(
+        request,
+        Request::Array(_, _) | Request::Set(_, _, _) | Request::Elem(_, _) | Request::Show(_)
     )
 }

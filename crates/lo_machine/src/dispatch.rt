@@ -3,6 +3,7 @@ ghost use Rattle.std.specs.Prelude.{◌≡◌, ◌≤◌, length, []};
 ghost use Rattle.lo_calls.specs.DescriptorRows.{open_row, close_row, read_row, write_row, seek_row, tell_row, truncate_row};
 ghost use Rattle.lo_calls.specs.ObjectRows.{create_row, unlink_row, get_row, put_row};
 ghost use Rattle.lo_machine.specs.Dispatch.{CanCall, AnswersCall, ReadsCall};
+ghost use Rattle.lo_machine.specs.Row.{on_objects};
 
 use crate::engine::Engine;
 use lo_base::{Denied, Oid, Reply, SessionNo, Word};
@@ -10,7 +11,7 @@ use lo_base::{Denied, Oid, Reply, SessionNo, Word};
 impl Engine {
     pub(crate) fn create(&mut self, s: SessionNo, oid: Oid) -> Result<Reply, Denied>
         requires { CanCall s self.old }
-        ensures { AnswersCall s (create_row oid []) self.old self.new result }
+        ensures { AnswersCall s (on_objects (create_row oid [])) self.old self.new result }
     {
         let session = &self.sessions[s.place()];
         match session.lo_create(&mut self.store, &mut self.core, oid) {
@@ -27,7 +28,7 @@ impl Engine {
     ) -> Result<Reply, Denied>
         requires can { CanCall s self.old }
         requires most { length bytes.now ≤ 16777216 }
-        ensures { AnswersCall s (create_row oid bytes.now) self.old self.new result }
+        ensures { AnswersCall s (on_objects (create_row oid bytes.now)) self.old self.new result }
     {
         let session = &self.sessions[s.place()];
         match session.lo_from_bytea(&mut self.store, &mut self.core, oid, bytes) {
@@ -38,7 +39,7 @@ impl Engine {
 
     pub(crate) fn unlink(&mut self, s: SessionNo, oid: Oid) -> Result<Reply, Denied>
         requires { CanCall s self.old }
-        ensures { AnswersCall s (unlink_row oid) self.old self.new result }
+        ensures { AnswersCall s (on_objects (unlink_row oid)) self.old self.new result }
     {
         let session = &mut self.sessions[s.place()];
         match session.lo_unlink(&mut self.store, &mut self.core, oid) {
@@ -55,7 +56,7 @@ impl Engine {
         bytes: &[u8],
     ) -> Result<Reply, Denied>
         requires { CanCall s self.old }
-        ensures { AnswersCall s (put_row oid at bytes.now) self.old self.new result }
+        ensures { AnswersCall s (on_objects (put_row oid at bytes.now)) self.old self.new result }
     {
         let session = &self.sessions[s.place()];
         match session.lo_put(&mut self.store, &mut self.core, oid, at, bytes) {
@@ -72,7 +73,7 @@ impl Engine {
         length: Option<i32>,
     ) -> Result<Reply, Denied>
         requires { CanCall s self.old }
-        ensures { ReadsCall s (get_row oid from length) self.old self.new result }
+        ensures { ReadsCall s (on_objects (get_row oid from length)) self.old self.new result }
     {
         let session = &self.sessions[s.place()];
         match session.lo_get(&self.store, &self.core, oid, from, length) {
@@ -88,7 +89,7 @@ impl Engine {
         mode: i32,
     ) -> Result<Reply, Denied>
         requires { CanCall s self.old }
-        ensures { ReadsCall s (open_row oid mode) self.old self.new result }
+        ensures { ReadsCall s (on_objects (open_row oid mode)) self.old self.new result }
     {
         let session = &mut self.sessions[s.place()];
         match session.lo_open(&self.store, &mut self.core, oid, mode) {
@@ -99,7 +100,7 @@ impl Engine {
 
     pub(crate) fn close(&mut self, s: SessionNo, fd: i32) -> Result<Reply, Denied>
         requires { CanCall s self.old }
-        ensures { ReadsCall s (close_row fd) self.old self.new result }
+        ensures { ReadsCall s (on_objects (close_row fd)) self.old self.new result }
     {
         let session = &mut self.sessions[s.place()];
         match session.lo_close(&mut self.core, fd) {
@@ -110,7 +111,7 @@ impl Engine {
 
     pub(crate) fn read(&mut self, s: SessionNo, fd: i32, length: i32) -> Result<Reply, Denied>
         requires { CanCall s self.old }
-        ensures { ReadsCall s (read_row fd length) self.old self.new result }
+        ensures { ReadsCall s (on_objects (read_row fd length)) self.old self.new result }
     {
         let session = &mut self.sessions[s.place()];
         match session.lo_read(&self.store, &self.core, fd, length) {
@@ -121,7 +122,7 @@ impl Engine {
 
     pub(crate) fn write(&mut self, s: SessionNo, fd: i32, bytes: &[u8]) -> Result<Reply, Denied>
         requires { CanCall s self.old }
-        ensures { AnswersCall s (write_row fd bytes.now) self.old self.new result }
+        ensures { AnswersCall s (on_objects (write_row fd bytes.now)) self.old self.new result }
     {
         let session = &mut self.sessions[s.place()];
         match session.lo_write(&mut self.store, &mut self.core, fd, bytes) {
@@ -139,7 +140,7 @@ impl Engine {
         wide: bool,
     ) -> Result<Reply, Denied>
         requires { CanCall s self.old }
-        ensures { ReadsCall s (seek_row wide fd offset whence) self.old self.new result }
+        ensures { ReadsCall s (on_objects (seek_row wide fd offset whence)) self.old self.new result }
     {
         let session = &mut self.sessions[s.place()];
         match session.lo_lseek(&self.store, &self.core, fd, offset, whence, wide) {
@@ -150,7 +151,7 @@ impl Engine {
 
     pub(crate) fn tell(&mut self, s: SessionNo, fd: i32, wide: bool) -> Result<Reply, Denied>
         requires { CanCall s self.old }
-        ensures { ReadsCall s (tell_row wide fd) self.old self.new result }
+        ensures { ReadsCall s (on_objects (tell_row wide fd)) self.old self.new result }
     {
         let session = &self.sessions[s.place()];
         match session.lo_tell(fd, wide) {
@@ -161,7 +162,7 @@ impl Engine {
 
     pub(crate) fn truncate(&mut self, s: SessionNo, fd: i32, size: i64) -> Result<Reply, Denied>
         requires { CanCall s self.old }
-        ensures { AnswersCall s (truncate_row fd size) self.old self.new result }
+        ensures { AnswersCall s (on_objects (truncate_row fd size)) self.old self.new result }
     {
         let session = &self.sessions[s.place()];
         match session.lo_truncate(&mut self.store, &mut self.core, fd, size) {

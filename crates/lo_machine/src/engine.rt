@@ -1,17 +1,20 @@
-// The engine: transactions, large objects, and for each session its descriptors and whether its block is failed. A request
+// The engine: transactions, large objects, tables, and for each session its descriptors, its array variables and whether its
+// block is failed; the cursors of all sessions stand with the tables. A request
 // is done at the present clock, which moves on once it was done, so that a request that finds no memory leaves the clock too.
 ghost use Rattle.std.specs.Prelude.{◌≡◌, ◌<◌, ◌+◌, ◌^◌, IfOk, OnErr, IsTrue, replicate, []};
 ghost use Rattle.lo_calls.specs.declared.session.LoSession.{LoSession};
-ghost use Rattle.lo_machine.specs.Engine.{clock_of, IsEngine, StandsFor, Serves, Does, Undone, HasRoom};
-ghost use Rattle.lo_machine.specs.NewEngine.{AreNew};
+ghost use Rattle.lo_machine.specs.Engine.{clock_of, HasRows, IsEngine, StandsFor, Serves, Does, Undone, HasRoom};
+ghost use Rattle.lo_machine.specs.NewEngine.{AreNew, AreNone};
 ghost use Rattle.lo_machine.specs.Run.{start};
 ghost use Rattle.lo_machine.specs.Served.{IsServed};
 ghost use Rattle.lo_machine.specs.Step.{outcome};
 ghost use Rattle.lo_machine.specs.Transactions.{may_recover};
 
+use crate::variables::Variables;
 use lo_base::{Cause, NoMemory, Refusal, Reply, Request, SESSIONS, SessionNo};
 use lo_calls::{Descs, LoSession, LoStore};
 use lo_pages::Pages;
+use row_tables::Tables;
 use row_versions::Core;
 use std::alloc::Global;
 use xact_core::Xacts;
@@ -28,8 +31,12 @@ pub struct Engine {
     pub(crate) alloc: Global,
     pub(crate) core: Core,
     pub(crate) store: LoStore,
+    /// The tables, and the cursors of all sessions.
+    pub(crate) tables: Tables,
     /// The descriptors of each session, session 1 first.
     pub(crate) sessions: Vec<LoSession>,
+    /// The array variables of each session, session 1 first.
+    pub(crate) variables: Vec<Variables>,
     /// For each session whether its block is failed.
     pub(crate) failed: Vec<bool>,
     /// How many times a level was undone.
@@ -40,6 +47,7 @@ impl Engine {
     /// An engine of the empty database.
     pub fn start(alloc: Global) -> Result<Engine, NoMemory>
         ensures sound { IfOk result IsEngine }
+        ensures rows { IfOk result HasRows }
         ensures stands { IfOk result (λ engine. StandsFor engine start.state) }
     {
         let mut xacts = Xacts::new(alloc)?;
@@ -53,7 +61,9 @@ impl Engine {
                 pages: Pages::new(alloc)?,
                 counter: FIRST_NUMBER,
             },
+            tables: Tables::new(alloc)?,
             sessions: new_sessions(alloc)?,
+            variables: new_variables(alloc)?,
             failed,
             undos: 0,
         })
@@ -62,9 +72,11 @@ impl Engine {
     /// Does one request of a session. Where it finds no memory, nothing was done.
     pub fn step(&mut self, s: SessionNo, request: &Request) -> Result<Reply, NoMemory>
         requires sound { IsEngine self.old }
+        requires rows { HasRows self.old }
         requires served { IsServed request.now }
         requires time { clock_of self.old < 2 ^ 62 }
         ensures sound { IsEngine self.new }
+        ensures rows { HasRows self.new }
         ensures serves { Serves self.old self.new s request.now result }
     {
         if !self.has_room() {
@@ -88,6 +100,7 @@ impl Engine {
     /// Does a request, which a failed block refuses unless it may end the failure.
     fn outcome(&mut self, s: SessionNo, request: &Request) -> Result<Reply, NoMemory>
         requires sound { IsEngine self.old }
+        requires rows { HasRows self.old }
         requires served { IsServed request.now }
         requires room { HasRoom self.old }
         ensures sound { IsEngine self.new }
@@ -127,6 +140,17 @@ fn new_sessions(alloc: Global) -> Result<Vec<LoSession>, NoMemory>
         })?;
     }
     Ok(sessions)
+}
+
+/// Sixteen sessions without array variables.
+fn new_variables(alloc: Global) -> Result<Vec<Variables>, NoMemory>
+    ensures { IfOk result (λ lists. AreNone lists.items) }
+{
+    let mut lists = Vec::with_capacity(alloc, SESSIONS as usize)?;
+    for _session in 0..SESSIONS {
+        lists.push(Variables::new(alloc))?;
+    }
+    Ok(lists)
 }
 
 /// Whether a request may end a block's failure.

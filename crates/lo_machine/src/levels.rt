@@ -1,5 +1,5 @@
-// The levels of sessions, and the ends of their transactions. Each moves the transactions and the session's descriptors, and no
-// page.
+// The levels of sessions, and the ends of their transactions. Each moves the transactions and the session's descriptors and
+// cursors, and no page and no row.
 ghost use Rattle.std.specs.Prelude.{◌≡◌, ◌<◌, ◌≤◌, ◌+◌, ◌-◌, ◌^◌, ◌∷◌, ◌++◌, [], Some, None, length, take, slice_index_or, true, false, Bool, OnOk, OnErr};
 ghost use Rattle.lo_model.specs.Levels.{released, undone, aborted, committed};
 ghost use Rattle.lo_model.specs.Session.{idle_session, session_released, session_undone};
@@ -79,6 +79,7 @@ impl Engine {
         self.sessions[s.place()]
             .descs
             .release_level(&mut self.core.xacts, level);
+        self.tables.release_level(&mut self.core, s, level);
         self.core.xacts.release_level(s, level);
     }
 
@@ -99,12 +100,13 @@ impl Engine {
         self.sessions[s.place()]
             .descs
             .undo_level(&mut self.core.xacts, level);
+        self.tables.undo_level(&mut self.core, s, level);
         self.core.xacts.undo_level(s, level);
         self.undos += 1;
         self.failed[s.place()] = failed;
     }
 
-    /// Commits the session's transaction at the present clock, and closes its descriptors.
+    /// Commits the session's transaction at the present clock, and closes its descriptors and cursors.
     pub(crate) fn end_committed(&mut self, s: SessionNo)
         requires sound { IsEngine self.old }
         requires open { 0 < length (names_in self.old s) }
@@ -115,21 +117,22 @@ impl Engine {
         // Numbers of sessions are from 1 to 16.
         let _ = s.number();
         self.sessions[s.place()].descs.end_all(&mut self.core.xacts);
+        self.tables.undo_level(&mut self.core, s, 1);
         self.core.xacts.commit(s);
         self.failed[s.place()] = false;
     }
 
-    /// Undoes the session's transaction, and closes its descriptors.
+    /// Undoes the session's transaction, and closes its descriptors and cursors.
     pub(crate) fn end_aborted(&mut self, s: SessionNo)
         requires sound { IsEngine self.old }
         requires open { 0 < length (names_in self.old s) }
         ensures sound { IsEngine self.new }
         ensures becomes { Becomes s [] (aborted s) (λ session. idle_session) self.old self.new }
-        ensures loses { Loses s 1 self.old self.new }
     {
         // Numbers of sessions are from 1 to 16.
         let _ = s.number();
         self.sessions[s.place()].descs.end_all(&mut self.core.xacts);
+        self.tables.undo_level(&mut self.core, s, 1);
         self.core.xacts.abort(s);
         self.failed[s.place()] = false;
     }

@@ -2,6 +2,7 @@
 //! sessions' programs under a schedule, which replays by its type.
 #![tactic(auto)]
 
+mod arrays;
 mod calls;
 mod dispatch;
 mod engine;
@@ -12,6 +13,7 @@ mod running;
 #[cfg(test)]
 mod tests;
 mod transactions;
+mod variables;
 
 pub use engine::Engine;
 pub use law::{kept_views_are_the_states, orders_are_whole, served_lines_take_one_advance};

@@ -2,7 +2,7 @@
 // TO SAVEPOINT, VACUUM.)
 ghost use Rattle.std.specs.Prelude.{◌≡◌, ◌<◌, ◌≤◌, ◌^◌, pos, length, IfOk, IfSome, OnErr};
 ghost use Rattle.lo_model.specs.Transaction.{newest};
-ghost use Rattle.lo_machine.specs.Engine.{xacts_of, names_in, IsEngine, Does, Undone, HasRoom};
+ghost use Rattle.lo_machine.specs.Engine.{xacts_of, names_in, HasRows, IsEngine, Does, Undone, HasRoom};
 ghost use Rattle.lo_machine.specs.State.{refused};
 ghost use Rattle.lo_machine.specs.Terms.{refusal};
 ghost use Rattle.lo_base.specs.declared.refusal.Cause.TheVariants.{NoBlock, NoSavepoint};
@@ -104,6 +104,7 @@ impl Engine {
     /// Takes away what no kept view needs.
     pub(crate) fn vacuum(&mut self, s: SessionNo) -> Reply
         requires sound { IsEngine self.old }
+        requires rows { HasRows self.old }
         requires room { HasRoom self.old }
         ensures sound { IsEngine self.new }
         ensures does { Does self.old self.new s (λ st. tried st s Request.Vacuum) result }
@@ -112,6 +113,7 @@ impl Engine {
             return self.refuse(s, Cause::InBlock);
         }
         self.store.pages.vacuum(&mut self.core);
+        self.tables.vacuum(&mut self.core);
         Reply::Word(Word::Vacuum)
     }
 

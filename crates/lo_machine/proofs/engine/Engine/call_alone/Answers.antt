@@ -1,6 +1,8 @@
-use Rattle.lo_machine.proofs.CallAlone.{alone_reply, alone_leaves, alone_refused, alone_refused_leaves, alone_stands, clock_kept}
-use Rattle.lo_machine.proofs.CallsKept.{own_number}
-use Rattle.std.proofs.Common.{◌≤◌, ◌∙◌}
+use Rattle.lo_machine.specs.Engine.{xacts_of}
+use Rattle.lo_machine.proofs.CallAlone.{alone_reply, alone_leaves, alone_refused, alone_refused_leaves, alone_stands}
+use Rattle.lo_machine.proofs.CallFinds.{clock_kept, lost_rows}
+use Rattle.lo_model.specs.Session.{session_undone}
+use Rattle.std.proofs.Common.{false, length, ap, sym, ◌≤◌, ◌∙◌}
 use Rattle.lo_machine.proofs.engine.Engine.call_alone.Goals as goal
 
 pub returns-in-Ok-do_call-clause-ok : goal.returns-in-Ok-do_call-clause-ok
@@ -11,11 +13,12 @@ returns-in-Ok-do_call-clause-ok c =
     let e2 = c.do_call.new.self in
     let e3 = c.end_committed.new.self in
     let answers = c.in-Ok-do_call.ensures in
-    let number = own_number c.args.s e1 answers.own.own range.0 c.open.ensures.sound answers.own.before in
+    let ends = c.end_committed.ensures.becomes in
     record {
-      reply = λ st stands. alone_reply c.args.s range.0 range.1 e0 e1 e2 e3 c.requires.none c.in-Ok.ensures.ok answers.keeps answers.own number st stands c.args.request.now c.requires.call c.in-Ok-do_call.reply answers.ok c.end_committed.ensures.becomes;
-      leaves = λ st stands. alone_leaves c.args.s range.0 range.1 e0 e1 e2 e3 c.requires.none c.in-Ok.ensures.ok answers.keeps answers.own number st stands c.args.request.now c.requires.call c.in-Ok-do_call.reply answers.ok c.end_committed.ensures.becomes;
-      time = c.end_committed.ensures.becomes.time ∙ (clock_kept c.args.s e1 e2 answers.keeps ∙ c.in-Ok.ensures.ok.time);
+      reply = λ st stands. alone_reply c.args.s range.0 range.1 e0 e1 e2 c.requires.none c.in-Ok.ensures.ok answers.xacts st stands c.args.request.now c.requires.call c.in-Ok-do_call.reply answers.ok;
+      leaves = λ st stands. alone_leaves c.args.s range.0 range.1 e0 e1 e2 c.requires.none c.in-Ok.ensures.ok answers.xacts st stands c.args.request.now c.requires.call c.in-Ok-do_call.reply answers.ok e3 ends;
+      rows = λ old. ends.rows answers.ok.rows;
+      time = ends.time ∙ (clock_kept (xacts_of e1) (xacts_of e2) answers.xacts ∙ c.in-Ok.ensures.ok.time);
     }
 
 pub returns-in-Err-By-clause-ok : goal.returns-in-Err-By-clause-ok
@@ -26,12 +29,13 @@ returns-in-Err-By-clause-ok c =
     let e2 = c.do_call.new.self in
     let e3 = c.end_aborted.new.self in
     let answers = c.in-Err-By.ensures in
-    let number = own_number c.args.s e1 answers.own.own range.0 c.open.ensures.sound answers.own.before in
+    let ends = c.end_aborted.ensures.becomes in
     let refuses = rw (c.in-Err-By.field-0-is) at answers.err in
     record {
-      reply = λ st stands. alone_refused c.args.s range.0 range.1 e0 e1 e2 e3 c.requires.none c.in-Ok.ensures.ok answers.keeps answers.own number st stands c.args.request.now c.requires.call c.in-Err-By.refusal refuses c.end_aborted.ensures.becomes;
-      leaves = λ st stands. alone_refused_leaves c.args.s range.0 range.1 e0 e1 e2 e3 c.requires.none c.in-Ok.ensures.ok answers.keeps answers.own number st stands c.args.request.now c.requires.call c.in-Err-By.refusal refuses c.end_aborted.ensures.becomes;
-      time = c.end_aborted.ensures.becomes.time ∙ (clock_kept c.args.s e1 e2 answers.keeps ∙ c.in-Ok.ensures.ok.time);
+      reply = λ st stands. alone_refused c.args.s range.0 range.1 e0 e1 e2 c.requires.none c.in-Ok.ensures.ok answers.xacts st stands c.args.request.now c.requires.call c.in-Err-By.refusal refuses;
+      leaves = λ st stands. alone_refused_leaves c.args.s range.0 range.1 e0 e1 e2 c.requires.none c.in-Ok.ensures.ok answers.xacts st stands c.args.request.now c.requires.call c.in-Err-By.refusal refuses e3 ends;
+      rows = λ old. ends.rows refuses.stays.rows;
+      time = ends.time ∙ (clock_kept (xacts_of e1) (xacts_of e2) answers.xacts ∙ c.in-Ok.ensures.ok.time);
     }
 
 pub returns-in-Err-NoMemory-clause-err : goal.returns-in-Err-NoMemory-clause-err
@@ -40,12 +44,14 @@ returns-in-Err-NoMemory-clause-err c =
     let e0 = c.args.self.now in
     let e1 = c.open.new.self in
     let e2 = c.do_call.new.self in
-    let e3 = c.end_aborted-in-Err-NoMemory.new.self in
+    let e3 = c.undo.new.self in
+    let e4 = c.end_aborted-in-Err-NoMemory.new.self in
     let answers = c.in-Err-NoMemory.ensures in
-    let ended = c.end_aborted-in-Err-NoMemory.ensures in
-    let number = own_number c.args.s e1 answers.own.own range.0 c.open.ensures.sound answers.own.before in
-    let finds = rw (c.in-Err-NoMemory.field-0-is) at answers.err in
+    let undoes = c.undo.ensures in
+    let ends = c.end_aborted-in-Err-NoMemory.ensures.becomes in
+    let lacks = rw (c.in-Err-NoMemory.field-0-is) at answers.err in
     record {
-      stands = λ st stands. alone_stands c.args.s range.0 range.1 e0 e1 e2 e3 c.requires.none c.in-Ok.ensures.ok answers.keeps answers.own number st stands finds ended.becomes ended.loses;
-      time = ended.becomes.time ∙ (clock_kept c.args.s e1 e2 answers.keeps ∙ c.in-Ok.ensures.ok.time);
+      stands = λ st stands. alone_stands c.args.s range.0 range.1 e0 e1 e2 c.requires.none c.in-Ok.ensures.ok answers.xacts st stands lacks e3 e4 _ undoes.becomes undoes.loses ends;
+      rows = λ old. ends.rows (lost_rows c.args.s 1 e1 e2 e3 (sym (ap length c.in-Ok.ensures.ok.names)) lacks _ (session_undone 1 false) undoes.becomes undoes.loses (c.in-Ok.ensures.ok.rows old));
+      time = ends.time ∙ (undoes.becomes.time ∙ (clock_kept (xacts_of e1) (xacts_of e2) answers.xacts ∙ c.in-Ok.ensures.ok.time));
     }

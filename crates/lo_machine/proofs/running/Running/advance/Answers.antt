@@ -18,6 +18,7 @@ invariant_of-self-in_err-reply c = stayed c.self.inside _ c.self.invariant recor
   replies = search rules;
   lines_done = search rules;
   sound = c.in_err-reply.ensures.sound;
+  rows = c.in_err-reply.ensures.rows;
   stands = c.in_err-reply.ensures.serves.err;
 }
 
@@ -50,6 +51,7 @@ changed c =
       answer = (c.in_ok-reply.ensures.serves.ok _ c.self.invariant.stands).0;
       stands = (c.in_ok-reply.ensures.serves.ok _ c.self.invariant.stands).1;
       sound = c.in_ok-reply.ensures.sound;
+      rows = c.in_ok-reply.ensures.rows;
       moves = moves_on (moment_of (play_of c.self.inside)).state c.args.s c.index-lines-done.result (search rules);
     }
 

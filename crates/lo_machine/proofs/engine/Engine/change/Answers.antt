@@ -1,6 +1,6 @@
 use Rattle.std.proofs.Common.{w32, w64, rules}
 use Rattle.std.proofs.lemmas.Int.{to_z-of_z}
-use Rattle.lo_machine.proofs.engine.Engine.change_objects.Goals as goal
+use Rattle.lo_machine.proofs.engine.Engine.change.Goals as goal
 
 pub returns-in-LoWrite : goal.returns-in-LoWrite
 returns-in-LoWrite c = rw (c.in-LoWrite.is) (rw (to_z-of_z w32 c.in-LoWrite.fd (search rules), c.items.ensures) at c.write.ensures)

@@ -1,6 +1,6 @@
 use Rattle.std.proofs.Common.{w32, w64, rules}
 use Rattle.std.proofs.lemmas.Int.{to_z-of_z}
-use Rattle.lo_machine.proofs.engine.Engine.look_at_objects.Goals as goal
+use Rattle.lo_machine.proofs.engine.Engine.look.Goals as goal
 
 pub returns-in-LoOpen : goal.returns-in-LoOpen
 returns-in-LoOpen c = rw (c.in-LoOpen.is) (rw (to_z-of_z w32 c.in-LoOpen.mode (search rules)) at c.open_descriptor.ensures)
