@@ -1,9 +1,16 @@
 mod Examples
+mod ArrayExamples
+pub mod ArrayForms
 pub mod CutTexts
 pub mod DecimalsAndBytes
+pub mod ExactForms
 pub mod FirstBadLines
+pub mod LargeObjectForms
 pub mod MarksAndNames
 pub mod OneLineReplies
 pub mod PrintedFronts
+pub mod PrintedValues
+pub mod Readers
 pub mod ScriptOrder
 pub mod SpelledRequests
+pub mod ValueTokens

@@ -15,7 +15,7 @@ use Rattle.lo_script.specs.Form.{request_of}
 use Rattle.lo_script.specs.Reading.{Read}
 use Rattle.lo_script.specs.Script.{ScriptText, script_with, entry_of, entry_in, request_by, all_of, with_entry, with_entries, script_of, is_request_line}
 use Rattle.lo_script.proofs.DecimalsAndBytes.{tested, some_injective, and_then-some}
-use Rattle.lo_script.proofs.SpelledRequests.{first_token-some, read_and-some, read_injective, value_of-some}
+use Rattle.lo_script.proofs.Readers.{first_token-some, read_and-some, read_injective, value_of-some}
 use Rattle.lo_script.proofs.MarksAndNames.{session-some}
 
 abbrev Entry : Type 0

@@ -1,40 +1,12 @@
 -- The forms of requests: a word, and tokens that spell the arguments.
-use Rattle.std.specs.Prelude.{ℕ, pos, List, [], ◌∷◌, Option, Some, None, if◌then◌else◌, codes, bytes_eq}
+use Rattle.std.specs.Prelude.{ℕ, pos, List, [], ◌∷◌, Some, None, if◌then◌else◌, codes, bytes_eq}
 use Rattle.lo_base.specs.declared.request.Request.{Request}
 use Rattle.lo_base.specs.declared.request.Request.TheVariants.{Begin, Commit, Rollback, Savepoint, Release, RollbackTo, LoCreat, LoCreate, LoOpen, LoClose, LoRead, LoWrite, LoLseek, LoLseek64, LoTell, LoTell64, LoTruncate, LoTruncate64, LoUnlink, LoGet, LoPut, LoFromBytea, Vacuum}
 use Rattle.lo_machine.specs.Spelled.{bytes_limit}
-use Rattle.lo_script.specs.Reading.{Reading, Read, BadAt, read_at, read_and}
-use Rattle.lo_script.specs.Token.{TokenList, column_after, oid_of, int4_of, int8_of, bytes_of, name_of, keyword_of, begins}
-
--- what tokens spell, the first of which begins at a column
-abbrev pub Reader : Type 0 → Type 0
-Reader R = (column : ℕ) → (tokens : TokenList) → Reading R
-
--- the first token spells a value, and the others go on with it
-abbrev pub first_token : {A R : Type 0} → (value : List ℕ → Option A) → (others : A → Reader R) → Reader R
-first_token value others column [] = BadAt column
-first_token value others column (token ∷ tokens) = read_and (λ a. others a (column_after column token tokens) tokens) (read_at column (value token))
-
-abbrev pub no_token : {R : Type 0} → R → Reader R
-no_token r column [] = Read r
-no_token r column (token ∷ tokens) = BadAt column
-
--- one token and no more
-abbrev pub one_token : {A R : Type 0} → (value : List ℕ → Option A) → (A → R) → Reader R
-one_token value make = first_token value (λ a. no_token (make a))
-
--- two tokens and no more
-abbrev pub two_tokens : {A B R : Type 0} → (first : List ℕ → Option A) → (second : List ℕ → Option B) → (A → B → R) → Reader R
-two_tokens first second make = first_token first (λ a. one_token second (make a))
-
--- three tokens and no more
-abbrev pub three_tokens : {A B C R : Type 0} → (first : List ℕ → Option A) → (second : List ℕ → Option B) → (third : List ℕ → Option C) → (A → B → C → R) → Reader R
-three_tokens first second third make = first_token first (λ a. two_tokens second third (make a))
-
--- that value where no token is left, and otherwise what the tokens spell
-abbrev pub none_or : {R : Type 0} → R → (others : Reader R) → Reader R
-none_or r others column [] = Read r
-none_or r others column (token ∷ tokens) = others column (token ∷ tokens)
+use Rattle.lo_script.specs.ArrayForm.{array_forms}
+use Rattle.lo_script.specs.Reader.{Reader, Form, form, first_token, no_token, one_token, two_tokens, three_tokens, none_or}
+use Rattle.lo_script.specs.Reading.{BadAt}
+use Rattle.lo_script.specs.Token.{column_after, oid_of, int4_of, int8_of, bytes_of, name_of, keyword_of, begins}
 
 -- rollback, or rollback to NAME
 abbrev pub rollback_of : Reader Request
@@ -43,14 +15,6 @@ rollback_of = none_or Rollback (two_tokens (keyword_of (codes "to")) name_of (λ
 -- lo_get OID, which is all bytes from the first on, or lo_get OID INT8 LEN4
 abbrev pub get_of : Reader Request
 get_of = first_token oid_of (λ oid. none_or (LoGet oid (pos 0) None) (two_tokens int8_of int4_of (λ from length. LoGet oid from (Some length))))
-
--- a form: its word, and the request that the tokens after it spell
-pub record Form : Type 0 where
-  pub word : List ℕ
-  pub request : Reader Request
-
-abbrev pub form : (word : List ℕ) → (request : Reader Request) → Form
-form word request = record { word = word; request = request }
 
 -- the forms of requests on open large objects
 abbrev pub descriptor_forms : List Form
@@ -78,7 +42,7 @@ large_object_forms =
     ∷ form (codes "lo_from_bytea") (two_tokens oid_of (bytes_of bytes_limit) LoFromBytea)
     ∷ descriptor_forms
 
--- the other forms
+-- the other forms: those of transactions, and then those of array variables
 abbrev pub other_forms : List Form
 other_forms =
     form (codes "begin") (no_token Begin)
@@ -87,7 +51,7 @@ other_forms =
     ∷ form (codes "savepoint") (one_token name_of Savepoint)
     ∷ form (codes "release") (one_token name_of Release)
     ∷ form (codes "vacuum") (no_token Vacuum)
-    ∷ []
+    ∷ array_forms
 
 -- the forms among which a word is looked for
 abbrev pub forms_of : (word : List ℕ) → List Form

@@ -1,7 +1,11 @@
 pub mod Answer
+pub mod ArrayForm
 pub mod Form
+pub mod Reader
 pub mod Reading
 pub mod ReplyText
 pub mod Script
+pub mod SpelledValues
 pub mod Spelling
 pub mod Token
+pub mod ValueToken

@@ -3,7 +3,8 @@ use Rattle.std.specs.Prelude.{◌≡◌, ℕ, ◌+◌, ◌-◌, ◌==◌, not, B
 use Rattle.std.specs.Str.Lines.{lines}
 use Rattle.lo_base.specs.declared.request.Request.{Request}
 use Rattle.lo_machine.specs.Program.{program_of}
-use Rattle.lo_script.specs.Form.{Reader, first_token, request_of}
+use Rattle.lo_script.specs.Form.{request_of}
+use Rattle.lo_script.specs.Reader.{Reader, first_token}
 use Rattle.lo_script.specs.Reading.{Reading, Read, BadAt, read_and, value_of}
 use Rattle.lo_script.specs.Token.{tokens_of, session_of}
 

@@ -1,24 +1,14 @@
--- What a line spells, said by printing.
-use Rattle.std.specs.Prelude.{◌≡◌, ℕ, ℤ, ◌<◌, ◌≤◌, ◌^◌, List, [], ◌∷◌, ◌++◌, Ok, Some, None, codes}
+-- What a line spells, said by printing: the tokens that can be written in one way alone, and those behind them.
+use Rattle.std.specs.Prelude.{◌≡◌, ℕ, [], ◌∷◌, ◌++◌, Some, None, codes}
 use Rattle.std.specs.Fmt.{decimal, signed_decimal}
-use Rattle.std.specs.Int.Signed.{mag}
-use Rattle.hex.specs.Hex.{IsBytes, decode_of}
+use Rattle.hex.specs.Hex.{IsBytes}
 use Rattle.lo_base.specs.declared.request.Request.{Request}
-use Rattle.lo_base.specs.declared.request.Request.TheVariants.{Begin, Commit, Rollback, Savepoint, Release, RollbackTo, LoCreat, LoCreate, LoOpen, LoClose, LoRead, LoWrite, LoLseek, LoLseek64, LoTell, LoTell64, LoTruncate, LoTruncate64, LoUnlink, LoGet, LoPut, LoFromBytea, Vacuum}
+use Rattle.lo_base.specs.declared.request.Request.TheVariants.{Begin, Commit, Rollback, Savepoint, Release, RollbackTo, LoCreat, LoCreate, LoOpen, LoClose, LoRead, LoWrite, LoLseek, LoLseek64, LoTell, LoTell64, LoTruncate, LoTruncate64, LoUnlink, LoGet, LoPut, LoFromBytea, Vacuum, Array, Set, Elem, Show}
 use Rattle.lo_machine.specs.Served.{IsServed}
 use Rattle.lo_script.specs.Form.{request_of}
 use Rattle.lo_script.specs.Reading.{Read}
-use Rattle.lo_script.specs.Token.{TokenList, oid_limit}
-
--- the ranges of the numbers' types
-abbrev pub IsOid : ℕ → Type 0
-IsOid oid = oid ≤ oid_limit
-
-abbrev pub IsInt4 : ℤ → Type 0
-IsInt4 n = mag n < 2 ^ 31
-
-abbrev pub IsInt8 : ℤ → Type 0
-IsInt8 n = mag n < 2 ^ 63
+use Rattle.lo_script.specs.SpelledValues.{IsOid, IsInt4, IsInt8, IsElement, element_text, SpellAll, SpellsBytes}
+use Rattle.lo_script.specs.Token.{TokenList}
 
 -- the numbers and the bytes of a request are in the ranges of their types
 abbrev pub HasRanges : Request → Type 0
@@ -39,54 +29,56 @@ HasRanges (LoTell fd) = IsInt4 fd
 HasRanges (LoTell64 fd) = IsInt4 fd
 HasRanges (LoTruncate fd size) = IsInt4 fd × IsInt4 size
 HasRanges (LoTruncate64 fd size) = IsInt4 fd × IsInt8 size
+HasRanges (Set name sub element) = IsInt4 sub × IsElement element
+HasRanges (Elem name sub) = IsInt4 sub
 HasRanges _ = Unit {0}
 
--- bytes in hexadecimal digits
-abbrev pub spelled_bytes : (digits : List ℕ) → List ℕ
-spelled_bytes digits = codes "\\x" ++ digits
+-- The tokens of a request up to those that may be spelled in more than one way. The requests that are not read yet have none.
+abbrev pub printed : Request → TokenList
+printed Begin = codes "begin" ∷ []
+printed Commit = codes "commit" ∷ []
+printed Rollback = codes "rollback" ∷ []
+printed (Savepoint name) = codes "savepoint" ∷ name ∷ []
+printed (Release name) = codes "release" ∷ name ∷ []
+printed (RollbackTo name) = codes "rollback" ∷ codes "to" ∷ name ∷ []
+printed (LoCreat mode) = codes "lo_creat" ∷ signed_decimal mode ∷ []
+printed (LoCreate oid) = codes "lo_create" ∷ decimal oid ∷ []
+printed (LoOpen oid mode) = codes "lo_open" ∷ decimal oid ∷ signed_decimal mode ∷ []
+printed (LoUnlink oid) = codes "lo_unlink" ∷ decimal oid ∷ []
+printed (LoGet oid from None) = codes "lo_get" ∷ decimal oid ∷ []
+printed (LoGet oid from (Some count)) = codes "lo_get" ∷ decimal oid ∷ signed_decimal from ∷ signed_decimal count ∷ []
+printed (LoPut oid at bytes) = codes "lo_put" ∷ decimal oid ∷ signed_decimal at ∷ []
+printed (LoFromBytea oid bytes) = codes "lo_from_bytea" ∷ decimal oid ∷ []
+printed (LoClose fd) = codes "lo_close" ∷ signed_decimal fd ∷ []
+printed (LoRead fd count) = codes "lo_read" ∷ signed_decimal fd ∷ signed_decimal count ∷ []
+printed (LoWrite fd bytes) = codes "lo_write" ∷ signed_decimal fd ∷ []
+printed (LoLseek fd offset whence) = codes "lo_lseek" ∷ signed_decimal fd ∷ signed_decimal offset ∷ signed_decimal whence ∷ []
+printed (LoLseek64 fd offset whence) = codes "lo_lseek64" ∷ signed_decimal fd ∷ signed_decimal offset ∷ signed_decimal whence ∷ []
+printed (LoTell fd) = codes "lo_tell" ∷ signed_decimal fd ∷ []
+printed (LoTell64 fd) = codes "lo_tell64" ∷ signed_decimal fd ∷ []
+printed (LoTruncate fd size) = codes "lo_truncate" ∷ signed_decimal fd ∷ signed_decimal size ∷ []
+printed (LoTruncate64 fd size) = codes "lo_truncate64" ∷ signed_decimal fd ∷ signed_decimal size ∷ []
+printed Vacuum = codes "vacuum" ∷ []
+printed (Array name text) = codes "array" ∷ name ∷ text ∷ []
+printed (Set name sub element) = codes "set" ∷ name ∷ signed_decimal sub ∷ element_text element ∷ []
+printed (Elem name sub) = codes "elem" ∷ name ∷ signed_decimal sub ∷ []
+printed (Show name) = codes "show" ∷ name ∷ []
+printed _ = []
 
--- the tokens of a request, where its bytes have those digits. The requests that are not read yet have none
-abbrev pub printed : (digits : List ℕ) → Request → TokenList
-printed digits Begin = codes "begin" ∷ []
-printed digits Commit = codes "commit" ∷ []
-printed digits Rollback = codes "rollback" ∷ []
-printed digits (Savepoint name) = codes "savepoint" ∷ name ∷ []
-printed digits (Release name) = codes "release" ∷ name ∷ []
-printed digits (RollbackTo name) = codes "rollback" ∷ codes "to" ∷ name ∷ []
-printed digits (LoCreat mode) = codes "lo_creat" ∷ signed_decimal mode ∷ []
-printed digits (LoCreate oid) = codes "lo_create" ∷ decimal oid ∷ []
-printed digits (LoOpen oid mode) = codes "lo_open" ∷ decimal oid ∷ signed_decimal mode ∷ []
-printed digits (LoUnlink oid) = codes "lo_unlink" ∷ decimal oid ∷ []
-printed digits (LoGet oid from None) = codes "lo_get" ∷ decimal oid ∷ []
-printed digits (LoGet oid from (Some count)) = codes "lo_get" ∷ decimal oid ∷ signed_decimal from ∷ signed_decimal count ∷ []
-printed digits (LoPut oid at bytes) = codes "lo_put" ∷ decimal oid ∷ signed_decimal at ∷ spelled_bytes digits ∷ []
-printed digits (LoFromBytea oid bytes) = codes "lo_from_bytea" ∷ decimal oid ∷ spelled_bytes digits ∷ []
-printed digits (LoClose fd) = codes "lo_close" ∷ signed_decimal fd ∷ []
-printed digits (LoRead fd count) = codes "lo_read" ∷ signed_decimal fd ∷ signed_decimal count ∷ []
-printed digits (LoWrite fd bytes) = codes "lo_write" ∷ signed_decimal fd ∷ spelled_bytes digits ∷ []
-printed digits (LoLseek fd offset whence) = codes "lo_lseek" ∷ signed_decimal fd ∷ signed_decimal offset ∷ signed_decimal whence ∷ []
-printed digits (LoLseek64 fd offset whence) = codes "lo_lseek64" ∷ signed_decimal fd ∷ signed_decimal offset ∷ signed_decimal whence ∷ []
-printed digits (LoTell fd) = codes "lo_tell" ∷ signed_decimal fd ∷ []
-printed digits (LoTell64 fd) = codes "lo_tell64" ∷ signed_decimal fd ∷ []
-printed digits (LoTruncate fd size) = codes "lo_truncate" ∷ signed_decimal fd ∷ signed_decimal size ∷ []
-printed digits (LoTruncate64 fd size) = codes "lo_truncate64" ∷ signed_decimal fd ∷ signed_decimal size ∷ []
-printed digits Vacuum = codes "vacuum" ∷ []
-printed digits _ = []
+-- the tokens behind those: bytes, which may be spelled in more than one way
+abbrev pub SpellRest : Request → TokenList → Type 0
+SpellRest (LoWrite fd bytes) rest = SpellAll SpellsBytes rest (bytes ∷ [])
+SpellRest (LoPut oid at bytes) rest = SpellAll SpellsBytes rest (bytes ∷ [])
+SpellRest (LoFromBytea oid bytes) rest = SpellAll SpellsBytes rest (bytes ∷ [])
+SpellRest _ rest = rest ≡ []
 
--- digits stand for the bytes of a request, if it has any. Bytes have more than one spelling, since digits may be of either case
-abbrev pub StandFor : (digits : List ℕ) → Request → Type 0
-StandFor digits (LoPut oid at bytes) = decode_of digits ≡ Ok bytes
-StandFor digits (LoFromBytea oid bytes) = decode_of digits ≡ Ok bytes
-StandFor digits (LoWrite fd bytes) = decode_of digits ≡ Ok bytes
-StandFor digits _ = Unit {0}
-
--- the tokens are those of the request's printed form
+-- the tokens spell the request
 pub record Spells (r : Request) (tokens : TokenList) : Type 0 where
-  pub digits : List ℕ
-  pub stand_for : StandFor digits r
-  pub is : tokens ≡ printed digits r
+  pub rest : TokenList
+  pub is : tokens ≡ printed r ++ rest
+  pub spell_rest : SpellRest r rest
 
--- the tokens are the printed form of a request that is served, whose numbers are in their ranges
+-- the tokens spell a request that is served, whose numbers and bytes are in their ranges
 abbrev pub SpellsServed : Request → TokenList → Type 0
 SpellsServed r tokens = IsServed r × HasRanges r × Spells r tokens
 

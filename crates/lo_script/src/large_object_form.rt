@@ -8,7 +8,7 @@ ghost use Rattle.lo_base.specs.declared.request.Request.TheVariants.{LoFromBytea
 ghost use Rattle.lo_machine.specs.Spelled.{bytes_limit};
 ghost use Rattle.lo_script.specs.Answer.{Reads};
 ghost use Rattle.lo_script.specs.Form.{form_in, large_object_forms, descriptor_forms, get_of};
-ghost use Rattle.lo_script.specs.Form.{one_token, two_tokens, three_tokens};
+ghost use Rattle.lo_script.specs.Reader.{one_token, two_tokens, three_tokens};
 ghost use Rattle.lo_script.specs.Token.{oid_of, int4_of, int8_of, bytes_of};
 
 use crate::error::LineError;

@@ -6,7 +6,8 @@ ghost use Rattle.lo_machine.specs.Served.{IsServed};
 ghost use Rattle.lo_script.specs.Form.{request_of};
 ghost use Rattle.lo_script.specs.Reading.{Read};
 ghost use Rattle.lo_script.specs.ReplyText.{text_of, IsOneLine, HasOneLineArrays};
-ghost use Rattle.lo_script.specs.Spelling.{IsInt8, SpellsServed, HasRanges, HasSpelling};
+ghost use Rattle.lo_script.specs.SpelledValues.{IsInt8};
+ghost use Rattle.lo_script.specs.Spelling.{SpellsServed, HasRanges, HasSpelling};
 ghost use Rattle.lo_script.specs.Token.{TokenList, int8_of};
 
 /// Laws of the grammar: a token spells the number that prints as it, and tokens spell the request

@@ -2,6 +2,7 @@
 //! printed as lines.
 #![tactic(auto)]
 
+mod array_form;
 mod error;
 mod form;
 mod large_object_form;
@@ -11,6 +12,7 @@ mod script;
 #[cfg(test)]
 mod tests;
 mod token;
+mod value_token;
 
 pub use error::{BadLine, ScriptError};
 pub use law::{replies_are_lines, tokens_spell};

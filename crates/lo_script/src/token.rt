@@ -1,5 +1,6 @@
-// The tokens of one line, and the values that they spell: a token stands between single spaces. Forms are in form.rt; a new
-// kind of token gets a method of `Token` here, with the definition of what it spells in specs/Token.antt.
+// The tokens of one line, and the numbers, names and bytes that they spell: a token stands between single spaces. Forms are in
+// form.rt, tokens of arrays in value_token.rt. A new kind of token gets a method of `Token`, with the definition of what it spells in
+// specs/Token.antt or specs/ValueToken.antt.
 ghost use Rattle.std.specs.Prelude.{◌≡◌, ◌≢◌, ◌↔◌, IsTrue, ◌+◌, ◌<◌, ◌==◌, [], ◌∷◌};
 ghost use Rattle.std.specs.Prelude.{length, bytes_eq, IfOk, IfErr, OnOk, IfSome};
 ghost use Rattle.std.specs.List.{position};
@@ -41,7 +42,7 @@ impl<'a> Model for Tokens<'a> {
 /// A token and the column where it begins.
 #[derive(Clone, Copy)]
 pub struct Token<'a> {
-    text: &'a [u8],
+    pub text: &'a [u8],
     column: u64,
 }
 
@@ -177,7 +178,7 @@ impl Token<'_> {
         }
     }
 
-    /// A savepoint's name.
+    /// The name of a savepoint or of an array variable.
     #[tactic(auto, using(crate::proofs::MarksAndNames::spelled_name, crate::proofs::MarksAndNames::no_name))]
     pub fn name(&self, alloc: Global) -> Result<Name, LineError>
         ensures { Reads (read_at self.now.column (name_of self.now.text.now)) result }

@@ -365,7 +365,7 @@ fn expect_bad(rt: &impl Abort, alloc: Global, text: &[u8], line: u64, column: u6
 }
 
 /// Checks each row of a table, and how many they are.
-fn expect_table(rt: &impl Abort, alloc: Global, table: &[u8], count: u64) {
+pub fn expect_table(rt: &impl Abort, alloc: Global, table: &[u8], count: u64) {
     let mut rows = 0u64;
     for row in table.split(|b| *b == b'\n') {
         if let [tens, ones, b' ', line @ .., b'|'] = row {

@@ -1,0 +1,43 @@
+-- What a form is made of: readers of tokens, one after the other.
+use Rattle.std.specs.Prelude.{ℕ, List, [], ◌∷◌, Option}
+use Rattle.lo_base.specs.declared.request.Request.{Request}
+use Rattle.lo_script.specs.Reading.{Reading, Read, BadAt, read_at, read_and}
+use Rattle.lo_script.specs.Token.{TokenList, column_after}
+
+-- what tokens spell, the first of which begins at a column
+abbrev pub Reader : Type 0 → Type 0
+Reader R = (column : ℕ) → (tokens : TokenList) → Reading R
+
+-- the first token spells a value, and the others go on with it
+abbrev pub first_token : {A R : Type 0} → (value : List ℕ → Option A) → (others : A → Reader R) → Reader R
+first_token value others column [] = BadAt column
+first_token value others column (token ∷ tokens) = read_and (λ a. others a (column_after column token tokens) tokens) (read_at column (value token))
+
+abbrev pub no_token : {R : Type 0} → R → Reader R
+no_token r column [] = Read r
+no_token r column (token ∷ tokens) = BadAt column
+
+-- one token and no more
+abbrev pub one_token : {A R : Type 0} → (value : List ℕ → Option A) → (A → R) → Reader R
+one_token value make = first_token value (λ a. no_token (make a))
+
+-- two tokens and no more
+abbrev pub two_tokens : {A B R : Type 0} → (first : List ℕ → Option A) → (second : List ℕ → Option B) → (A → B → R) → Reader R
+two_tokens first second make = first_token first (λ a. one_token second (make a))
+
+-- three tokens and no more
+abbrev pub three_tokens : {A B C R : Type 0} → (first : List ℕ → Option A) → (second : List ℕ → Option B) → (third : List ℕ → Option C) → (A → B → C → R) → Reader R
+three_tokens first second third make = first_token first (λ a. two_tokens second third (make a))
+
+-- that value where no token is left, and otherwise what the tokens spell
+abbrev pub none_or : {R : Type 0} → R → (others : Reader R) → Reader R
+none_or r others column [] = Read r
+none_or r others column (token ∷ tokens) = others column (token ∷ tokens)
+
+-- a form: its word, and the request that the tokens after it spell
+pub record Form : Type 0 where
+  pub word : List ℕ
+  pub request : Reader Request
+
+abbrev pub form : (word : List ℕ) → (request : Reader Request) → Form
+form word request = record { word = word; request = request }
