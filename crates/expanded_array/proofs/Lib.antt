@@ -1,4 +1,4 @@
-mod ArrayLaws
+pub mod ArrayLaws
 mod Bits
 mod BodyLaws
 mod ColonLaws
@@ -12,5 +12,5 @@ mod ReadLaws
 mod SetLaws
 mod SpellingLaws
 pub mod TextLaws
-mod Uniqueness
+pub mod Uniqueness
 mod Written

@@ -18,7 +18,7 @@ use Rattle.xact_core.proofs.ListPlaces.{set_here, set_other}
 use Rattle.lo_machine.specs.declared.engine.Engine.{Engine}
 use Rattle.lo_machine.specs.declared.variables.Variables.{Variables}
 use Rattle.lo_machine.specs.CallRows.{Shared}
-use Rattle.lo_machine.specs.Dispatch.{IsGranted, Grants, FindsNoMemory, Denies, Stays, AnswersCall, ReadsCall, here_in}
+use Rattle.lo_machine.specs.Dispatch.{Finds, IsGranted, Grants, FindsNoMemory, Denies, Stays, AnswersCall, ReadsCall, here_in}
 use Rattle.lo_machine.specs.Engine.{xacts_of, IsEngine, HasRows, HasSession, Has, HasVariables, with_variables_at}
 use Rattle.lo_machine.specs.Later.{with_session_at}
 use Rattle.lo_machine.specs.Row.{Here, Row, with_variables}
@@ -107,6 +107,14 @@ pub record IsGrant (own own' : Variables) (row : Here → Row) (reply : Reply) (
   pub granted : (here : Here) → IsAs own here.variables → (row here).granted ≡ with_variables here reply (after here.variables)
   pub leaves : (mine : List Variable) → IsAs own mine → IsAs own' (after mine)
 
+-- a row that grants other variables of its session and nothing else, of what the engine has
+pub record GrantsList (s : ℕ) (e : Engine) (row : Here → Row) (reply : Reply) (after : List Variable → List Variable) (ys : List (Edit Deed)) (shared : Shared) (sessions : ℕ → Session) (variables : ℕ → List Variable) : Type 0 where
+  pub unrefused : first_of (row (here_in s e ys shared sessions variables)).refusals ≡ None
+  pub granted : (row (here_in s e ys shared sessions variables)).granted ≡ with_variables (here_in s e ys shared sessions variables) reply (after (variables s))
+
+abbrev pub GrantsLists : (s : ℕ) → Engine → (Here → Row) → Reply → (List Variable → List Variable) → Type 0
+GrantsLists s e row reply after = (ys : List (Edit Deed)) (shared : Shared) (sessions : ℕ → Session) (variables : ℕ → List Variable) → Finds s e ys shared sessions variables → GrantsList s e row reply after ys shared sessions variables
+
 -- why the row refuses
 abbrev pub IsWhy : (own : Variables) → (Here → Row) → Denied → Type 0
 IsWhy own row NoMemory = Unit {0}
@@ -139,20 +147,26 @@ module _ (s place : ℕ) (e : Engine) (lists : Vec Variables Global) (own own' :
   is_own : (variables : ℕ → List Variable) → HasVariables e variables → IsAs own (variables s)
   is_own variables has = has.each s own (omega (arith, takes.at)) (omega (arith, takes.at, takes.most)) entry
 
-  granted : (row : Here → Row) (reply : Reply) (after : List Variable → List Variable) → IsGrant own own' row reply after → Grants s row e (with_lists e lists) reply
-  granted row reply after grant = record {
+  grants_here : (row : Here → Row) (reply : Reply) (after : List Variable → List Variable) → ((mine : List Variable) → IsAs own mine → IsAs own' (after mine)) → GrantsLists s e row reply after → Grants s row e (with_lists e lists) reply
+  grants_here row reply after leaves grant = record {
     granted = λ ys shared sessions variables finds.
         let here = here_in s e ys shared sessions variables in
         let mine = is_own variables finds.arrays in
+        let given = grant ys shared sessions variables finds in
         let grants : IsGranted s (record { refusals = (row here).refusals; granted = with_variables here reply (after (variables s)) }) e (with_lists e lists) reply ys sessions variables = record {
-          unrefused = grant.unrefused here mine;
+          unrefused = given.unrefused;
           answer = refl;
           has = subst (λ (edits : List (Edit Deed)). Has (with_lists e lists) edits shared (with_session_at s (sessions s) sessions)) (sym (append-nil ys)) (has_as e lists ys shared sessions (with_session_at s (sessions s) sessions) (λ t. sym (session_again s sessions t)) finds.has);
-          arrays = record { each = variables_as e s place own' takes.at within lists.items takes.set (after (variables s)) variables finds.arrays (grant.leaves (variables s) mine) };
+          arrays = record { each = variables_as e s place own' takes.at within lists.items takes.set (after (variables s)) variables finds.arrays (leaves (variables s) mine) };
         } in
-        subst (λ granted. IsGranted s (record { refusals = (row here).refusals; granted = granted }) e (with_lists e lists) reply ys sessions variables) (sym (grant.granted here mine)) grants;
+        subst (λ granted. IsGranted s (record { refusals = (row here).refusals; granted = granted }) e (with_lists e lists) reply ys sessions variables) (sym given.granted) grants;
     rows = takes.rows;
   }
+
+  granted : (row : Here → Row) (reply : Reply) (after : List Variable → List Variable) → IsGrant own own' row reply after → Grants s row e (with_lists e lists) reply
+  granted row reply after grant = grants_here row reply after grant.leaves (λ ys shared sessions variables finds.
+      let mine = is_own variables finds.arrays in
+      record { unrefused = grant.unrefused (here_in s e ys shared sessions variables) mine; granted = grant.granted (here_in s e ys shared sessions variables) mine })
 
   -- where the list has what it had, so has the engine
   abbrev pub Same : Type 0
@@ -188,6 +202,9 @@ module _ (s place : ℕ) (e : Engine) (lists : Vec Variables Global) (own own' :
 
   pub granted_reads : (row : Here → Row) (reply : Reply) (after : List Variable → List Variable) → IsGrant own own' row reply after → ReadsCall s row e (with_lists e lists) (Ok reply)
   granted_reads row reply after grant = record { answers = answers_as row (Ok reply) (granted row reply after grant) tt; stays = tt }
+
+  pub found_reads : (row : Here → Row) (reply : Reply) (after : List Variable → List Variable) → ((mine : List Variable) → IsAs own mine → IsAs own' (after mine)) → GrantsLists s e row reply after → ReadsCall s row e (with_lists e lists) (Ok reply)
+  found_reads row reply after leaves grant = record { answers = answers_as row (Ok reply) (grants_here row reply after leaves grant) tt; stays = tt }
 
   pub denied_reads : (row : Here → Row) (denied : Denied) → Same → IsWhy own row denied → ReadsCall s row e (with_lists e lists) (Err denied)
   denied_reads row denied same why = record { answers = answers_as row (Err denied) tt (denied_as row denied same why); stays = stays same }

@@ -1,6 +1,7 @@
--- What a request on data answers, from every state: in a block, or outside one where it is on array variables alone.
-use Rattle.std.proofs.Common.{◌≡◌, ◌≤◌, ◌<◌, ℕ, ◌-◌, Bool, true, false, List, [], ◌∷◌, ◌++◌, length, Option, Some, Ok, Err, refl, ap, sym, subst, ◌∙◌, arith}
+-- What a request on data answers, from every state: in a block, outside one where it is on array variables alone, or out of place.
+use Rattle.std.proofs.Common.{◌≡◌, ◌≤◌, ◌<◌, ℕ, pos, ◌-◌, Bool, true, false, List, [], ◌∷◌, ◌++◌, length, Option, Some, None, Ok, Err, refl, ap, sym, subst, ◌∙◌, arith}
 use Rattle.std.specs.Prelude.{slice_index_or, Result, IfOk, IfErr, OnErr, ◌||◌}
+use Rattle.lo_base.specs.declared.refusal.Cause.{Cause}
 use Rattle.lo_base.specs.declared.refusal.Denied.{Denied}
 use Rattle.lo_base.specs.declared.refusal.Denied.TheVariants.{By, NoMemory}
 use Rattle.lo_base.specs.declared.refusal.Refusal.{Refusal}
@@ -8,21 +9,26 @@ use Rattle.lo_base.specs.declared.reply.Reply.{Reply}
 use Rattle.lo_base.specs.declared.request.Request.{Request}
 use Rattle.lo_model.specs.Levels.{released, undone}
 use Rattle.lo_model.specs.Session.{session_released, session_undone}
+use Rattle.lo_model.specs.Transaction.{has_levels, is_open}
 use Rattle.xact_core.specs.Transactions.{Transactions}
 use Rattle.lo_machine.specs.declared.engine.Engine.{Engine}
 use Rattle.lo_machine.specs.CallRow.{call_row, writes, reads, sets, is_call, is_on_data}
+use Rattle.lo_machine.specs.CallRows.{misplaced_by}
 use Rattle.lo_machine.specs.Dispatch.{Grants, Denies, Stays, AnswersCall, ReadsCall, DeniesInBlock, AnswersInBlock}
 use Rattle.lo_machine.specs.Engine.{xacts_of, names_in, IsEngine, StandsFor, Leaves, Does, Undone, Becomes, Loses}
 use Rattle.lo_machine.specs.Moves.{unturned, session_opened}
-use Rattle.lo_machine.specs.State.{State, Outcome, refused}
+use Rattle.lo_machine.specs.State.{State, Outcome, session_of, refused}
 use Rattle.lo_machine.specs.Step.{granted_or_refused, tried}
+use Rattle.lo_machine.specs.Terms.{refusal}
+use Rattle.lo_machine.proofs.BlockRequests.{does_as}
 use Rattle.lo_machine.proofs.CallAlone.{call_on_data}
 use Rattle.lo_machine.proofs.CallCases.{each_set}
 use Rattle.lo_machine.proofs.CallFinds.{clock_kept, still_stands, lost_rows}
-use Rattle.lo_machine.proofs.CallInBlock.{look_reply, look_leaves, set_leaves, look_first, write_reply, write_leaves, write_first, write_refused, write_starved}
+use Rattle.lo_machine.proofs.CallInBlock.{open_levels, look_reply, look_leaves, set_leaves, look_first, write_reply, write_leaves, write_first, write_refused, write_starved}
+use Rattle.lo_machine.proofs.Outcomes.{IsPlaced, tried_misplaced}
 
 -- A request that makes no edit, at the session's levels.
-module _ (s : ℕ) (low : 1 ≤ s) (high : s ≤ 16) (e0 e2 : Engine) (r : Request) (data' : is_on_data r ≡ true) (leaves : (st : State) → StandsFor e0 st → (reply : Reply) → Grants s (call_row r) e0 e2 reply → Leaves e2 st s (tried st s r)) where
+module _ (s : ℕ) (low : 1 ≤ s) (high : s ≤ 16) (e0 e2 : Engine) (r : Request) (data' : is_on_data r ≡ true) (placed : (st : State) → StandsFor e0 st → IsPlaced st s r) (leaves : (st : State) → StandsFor e0 st → (reply : Reply) → Grants s (call_row r) e0 e2 reply → Leaves e2 st s (tried st s r)) where
   module _ (result : Result Reply Denied) (answers : AnswersCall s (call_row r) e0 e2 result) where
     time_same : (xacts_of e2).clock ≡ (xacts_of e0).clock
     time_same = clock_kept (xacts_of e0) (xacts_of e2) answers.xacts
@@ -32,7 +38,7 @@ module _ (s : ℕ) (low : 1 ≤ s) (high : s ≤ 16) (e0 e2 : Engine) (r : Reque
 
     look_granted : (one : Result Reply Denied) → IfOk one (Grants s (call_row r) e0 e2) → IfOk one (Does e0 e2 s (λ st. tried st s r))
     look_granted (Ok reply) grants = record {
-      reply = λ st stands. look_reply s low high e0 st stands e2 answers.xacts r data' reply grants;
+      reply = λ st stands. look_reply s low high e0 st stands e2 answers.xacts r data' (placed st stands) reply grants;
       leaves = λ st stands. leaves st stands reply grants;
       rows = λ old. grants.rows;
       time = time_same;
@@ -42,7 +48,7 @@ module _ (s : ℕ) (low : 1 ≤ s) (high : s ≤ 16) (e0 e2 : Engine) (r : Reque
     look_denied : (one : Result Reply Denied) → OnErr one (Stays e0 e2) → IfErr one (Denies s (call_row r) e0 e2) → IfErr one (DeniesInBlock s r e0 e2)
     look_denied (Ok reply) stays denies = tt
     look_denied (Err (By refusal)) stays refuses = record {
-      first = λ st stands. look_first s low high e0 st stands e2 answers.xacts r data' refusal refuses;
+      first = λ st stands. look_first s low high e0 st stands e2 answers.xacts r data' (placed st stands) refusal refuses;
       undone = stands_still stays;
     }
     look_denied (Err NoMemory) stays lacks = record { first = λ st stands. tt; undone = stands_still stays }
@@ -58,20 +64,29 @@ module _ (s : ℕ) (low : 1 ≤ s) (high : s ≤ 16) (e0 e2 : Engine) (r : Reque
       }
 
 -- one in a block
-pub look_answers : (s : ℕ) → 1 ≤ s → s ≤ 16 → (e0 e2 : Engine) → 0 < length (names_in e0 s) → (r : Request) → is_call r ≡ true → (result : Result Reply Denied) → ReadsCall s (call_row r) e0 e2 result → AnswersInBlock s r e0 e2 result
-look_answers s low high e0 e2 some r call result reads =
-    answers_as s low high e0 e2 r (call_on_data r call) (λ st stands reply grants. look_leaves s low high e0 st stands e2 reads.answers.xacts r (call_on_data r call) reply grants some) result reads
+pub look_answers : (s : ℕ) → 1 ≤ s → s ≤ 16 → (e0 e2 : Engine) → 0 < length (names_in e0 s) → (r : Request) → is_call r ≡ true → misplaced_by r true ≡ None → (result : Result Reply Denied) → ReadsCall s (call_row r) e0 e2 result → AnswersInBlock s r e0 e2 result
+look_answers s low high e0 e2 some r call in_block result reads =
+    answers_as s low high e0 e2 r (call_on_data r call) placed (λ st stands reply grants. look_leaves s low high e0 st stands e2 reads.answers.xacts r (call_on_data r call) (placed st stands) reply grants some) result reads
+  where
+    placed : (st : State) → StandsFor e0 st → IsPlaced st s r
+    placed st stands = ap (misplaced_by r) (open_levels (session_of st s).transaction.levels (subst (λ (names : List (Option (List ℕ))). 0 < length names) (stands.has.sessions s low high).levels some)) ∙ in_block
 
 -- and one on array variables
 pub set_on_data : (r : Request) → sets r ≡ true → is_on_data r ≡ true
 set_on_data = each_set (λ r. is_on_data r ≡ true) record { array = λ name text. refl; set = λ name sub value. refl; elem' = λ name sub. refl; show = λ name. refl }
 
+set_placed : (r : Request) → sets r ≡ true → (in_block : Bool) → misplaced_by r in_block ≡ None
+set_placed = each_set (λ r. (in_block : Bool) → misplaced_by r in_block ≡ None) record { array = λ name text in_block. refl; set = λ name sub value in_block. refl; elem' = λ name sub in_block. refl; show = λ name in_block. refl }
+
 pub set_answers : (s : ℕ) → 1 ≤ s → s ≤ 16 → (e0 e2 : Engine) (r : Request) → sets r ≡ true → (result : Result Reply Denied) → ReadsCall s (call_row r) e0 e2 result → AnswersInBlock s r e0 e2 result
 set_answers s low high e0 e2 r set result reads =
-    answers_as s low high e0 e2 r (set_on_data r set) (λ st stands reply grants. set_leaves s low high e0 st stands e2 reads.answers.xacts r (set_on_data r set) reply grants set) result reads
+    answers_as s low high e0 e2 r (set_on_data r set) placed (λ st stands reply grants. set_leaves s low high e0 st stands e2 reads.answers.xacts r (set_on_data r set) (placed st stands) reply grants set) result reads
+  where
+    placed : (st : State) → StandsFor e0 st → IsPlaced st s r
+    placed st stands = set_placed r set (is_open (session_of st s).transaction)
 
 -- One that writes, in a level of its own.
-module _ (s : ℕ) (low : 1 ≤ s) (high : s ≤ 16) (e0 e1 e2 : Engine) (some : 0 < length (names_in e0 s)) (name : List ℕ) (opens : Becomes s (names_in e0 s ++ Some name ∷ []) unturned (session_opened (Some name)) e0 e1) (level : ℕ) (is_level : level ≡ length (names_in e1 s)) (r : Request) (is_writing : writes r ≡ true) where
+module _ (s : ℕ) (low : 1 ≤ s) (high : s ≤ 16) (e0 e1 e2 : Engine) (some : 0 < length (names_in e0 s)) (name : List ℕ) (opens : Becomes s (names_in e0 s ++ Some name ∷ []) unturned (session_opened (Some name)) e0 e1) (level : ℕ) (is_level : level ≡ length (names_in e1 s)) (r : Request) (in_block : misplaced_by r true ≡ None) (is_writing : writes r ≡ true) where
   is_a_call : is_call r ≡ true
   is_a_call = ap (λ (b : Bool). b || reads r) is_writing
 
@@ -83,8 +98,8 @@ module _ (s : ℕ) (low : 1 ≤ s) (high : s ≤ 16) (e0 e1 e2 : Engine) (some :
           sound = sound3;
           undos = omega (arith, same, opens.undos, merges.undos);
           ok = record {
-            reply = λ st stands. write_reply s low high e0 st stands name e1 e2 some opens answers.xacts level is_level r is_a_call is_writing reply answers.ok;
-            leaves = λ st stands. write_leaves s low high e0 st stands name e1 e2 some opens answers.xacts level is_level r is_a_call is_writing reply answers.ok e3 names merges;
+            reply = λ st stands. write_reply s low high e0 st stands name e1 e2 some opens answers.xacts level is_level r is_a_call in_block is_writing reply answers.ok;
+            leaves = λ st stands. write_leaves s low high e0 st stands name e1 e2 some opens answers.xacts level is_level r is_a_call in_block is_writing reply answers.ok e3 names merges;
             rows = λ old. merges.rows answers.ok.rows;
             time = merges.time ∙ (clock_kept (xacts_of e1) (xacts_of e2) answers.xacts ∙ opens.time);
           };
@@ -97,7 +112,7 @@ module _ (s : ℕ) (low : 1 ≤ s) (high : s ≤ 16) (e0 e1 e2 : Engine) (some :
 
     denies_level : (d : Denied) → Denies s (call_row r) e1 e2 d → DeniesInBlock s r e0 e4 d
     denies_level (By refusal) refuses = record {
-      first = λ st stands. write_first s low high e0 st stands name e1 e2 some opens answers.xacts level is_level r is_a_call is_writing refusal refuses;
+      first = λ st stands. write_first s low high e0 st stands name e1 e2 some opens answers.xacts level is_level r is_a_call in_block is_writing refusal refuses;
       undone = record {
         stands = λ st stands. write_refused s low high e0 st stands name e1 e2 some opens answers.xacts level is_level (sym (stands.has.sessions s low high).failed ∙ unfailed) e3 e4 names names' undoes merges refuses.stays;
         rows = λ old. merges.rows (undoes.rows refuses.stays.rows);
@@ -134,3 +149,12 @@ refused_after s e0 e2 e3 r refusal reply denies does = record {
   where
     is_tried : (st : State) → StandsFor e0 st → tried st s r ≡ refused st s refusal
     is_tried st stands = ap (granted_or_refused st s r) (denies.first st stands)
+
+-- A request out of place, which was refused.
+pub misplaced_does : (s : ℕ) → 1 ≤ s → s ≤ 16 → (e0 e2 : Engine) (r : Request) → is_on_data r ≡ true → (in_block : Bool) → (in_block ≡ true → 0 < length (names_in e0 s)) → (in_block ≡ false → names_in e0 s ≡ []) → (cause : Cause) → misplaced_by r in_block ≡ Some cause → (reply : Reply) → Does e0 e2 s (λ st. refused st s (refusal cause (pos 0))) reply → Does e0 e2 s (λ st. tried st s r) reply
+misplaced_does s low high e0 e2 r data' in_block open' none cause is reply does =
+    does_as e0 e2 s (λ st. refused st s (refusal cause (pos 0))) (λ st. tried st s r) reply (λ st stands. sym (tried_misplaced st s r cause data' (ap (misplaced_by r) (stood st stands in_block open' none) ∙ is))) does
+  where
+    stood : (st : State) → StandsFor e0 st → (b : Bool) → (b ≡ true → 0 < length (names_in e0 s)) → (b ≡ false → names_in e0 s ≡ []) → is_open (session_of st s).transaction ≡ b
+    stood st stands true some none = open_levels (session_of st s).transaction.levels (subst (λ (names : List (Option (List ℕ))). 0 < length names) (stands.has.sessions s low high).levels (some refl))
+    stood st stands false some none = ap has_levels (sym (stands.has.sessions s low high).levels ∙ none refl)

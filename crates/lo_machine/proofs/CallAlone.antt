@@ -16,7 +16,7 @@ use Rattle.lo_pages.specs.Outcome.{first_of}
 use Rattle.xact_core.specs.Kept.{HoldsOthers}
 use Rattle.lo_machine.specs.declared.engine.Engine.{Engine}
 use Rattle.lo_machine.specs.CallRow.{call_row, is_call, is_on_data, sets}
-use Rattle.lo_machine.specs.CallRows.{Shared, shared_of, shared_by, session_by, here, called}
+use Rattle.lo_machine.specs.CallRows.{Shared, shared_of, shared_by, session_by, here, called, misplaced_by}
 use Rattle.lo_machine.specs.Dispatch.{here_in, IsGranted, Grants, Refuses, FindsNoMemory}
 use Rattle.lo_machine.specs.Engine.{xacts_of, clock_of, names_in, HasVariables, with_variables_at, StandsFor, Leaves, Becomes, Loses}
 use Rattle.lo_machine.specs.Later.{with_session_at}
@@ -27,7 +27,7 @@ use Rattle.lo_machine.specs.Step.{tried}
 use Rattle.lo_machine.proofs.CallFinds.{set_again, has_same, variables_kept, same_variables, clock_kept, lost_has, lost_variables, has_opened, time_opened, variables_opened, finds_opened, here_opened}
 use Rattle.lo_machine.proofs.CallLevels.{IsAlike, level_free}
 use Rattle.lo_machine.proofs.OpenEdits.{all_none, all_below, committed_both, undone_below}
-use Rattle.lo_machine.proofs.Outcomes.{tried_granted, tried_refused}
+use Rattle.lo_machine.proofs.Outcomes.{IsPlaced, tried_granted, tried_refused}
 use Rattle.lo_machine.proofs.WellEdits.{session_again}
 use Rattle.lo_machine.proofs.WellSessions.{idle}
 
@@ -83,7 +83,10 @@ module _ (s : ℕ) (low : 1 ≤ s) (high : s ≤ 16) (e0 e1 e2 : Engine) (none :
     below : undone s 1 (edits st) ≡ edits st
     below = undone_below s 1 (edits st) (all_below (now st) s 1 (session_of st) (edits st) stands.well.well.past (omega (arith, ap length none')))
 
-    module _ (r : Request) (call : is_call r ≡ true) where
+    module _ (r : Request) (call : is_call r ≡ true) (placed' : misplaced_by r false ≡ None) where
+      placed : IsPlaced st s r
+      placed = ap (misplaced_by r) outside ∙ placed'
+
       -- the row as it was read, and as it is of the state
       abbrev pub read : Row
       read = call_row r (here_in s e1 (edits st) shared sessions1 (variables_of st))
@@ -103,7 +106,7 @@ module _ (s : ℕ) (low : 1 ≤ s) (high : s ≤ 16) (e0 e1 e2 : Engine) (none :
         does = called st s row.granted
 
         is_tried : tried st s r ≡ does
-        is_tried = tried_granted st s r (call_on_data r call) stands.well.uncounted (ap first_of (sym alike.refusals) ∙ granted.unrefused)
+        is_tried = tried_granted st s r (call_on_data r call) placed stands.well.uncounted (ap first_of (sym alike.refusals) ∙ granted.unrefused)
 
         pub alone_reply : reply ≡ (tried st s r).reply
         alone_reply = granted.answer ∙ (alike.reply ∙ ap (λ (done : Outcome). done.reply) (sym is_tried))
@@ -138,7 +141,7 @@ module _ (s : ℕ) (low : 1 ≤ s) (high : s ≤ 16) (e0 e1 e2 : Engine) (none :
         first = ap first_of (sym alike.refusals) ∙ refuses.first (edits st) shared sessions1 (variables_of st) (finds_opened s low high e0 st stands None (None ∷ []) e1 opens)
 
         is_refused : tried st s r ≡ refused_in st s false refusal
-        is_refused = tried_refused st s r refusal (call_on_data r call) stands.well.uncounted first ∙ ap (λ (open' : Bool). refused_in st s open' refusal) outside
+        is_refused = tried_refused st s r refusal (call_on_data r call) placed stands.well.uncounted first ∙ ap (λ (open' : Bool). refused_in st s open' refusal) outside
 
         pub alone_refused : Refused refusal ≡ (tried st s r).reply
         alone_refused = sym (ap (λ (done : Outcome). done.reply) is_refused)

@@ -159,6 +159,7 @@ module _ (s : ℕ) (low : 1 ≤ s) (high : s ≤ 16) (e0 : Engine) (st : State) 
     views = subst (SeesNone (edits st)) (sym stands.time) quiet_now;
     kept = quiet_kept;
     cursors = quiet_cursors;
+    flat = stands.well.flat;
   }
 
   pub here_same : here_in s e0 (edits st) (shared_of st.database) (session_of st) (variables_of st) ≡ here st s
@@ -190,6 +191,7 @@ module _ (s : ℕ) (low : 1 ≤ s) (high : s ≤ 16) (e0 : Engine) (st : State) 
       views = subst (SeesNone (edits st)) (sym time_opened) quiet_now;
       kept = subst (λ (session : Session). All (λ (d : Descriptor). ReadsNone (edits st) d.reading) session.descriptors) (sym (own_session s opened (session_of st))) quiet_kept;
       cursors = subst (λ (session : Session). All (λ (c : Cursor). SeesNone (edits st) c.clock) session.cursors) (sym (own_session s opened (session_of st))) quiet_cursors;
+      flat = stands.well.flat;
     }
 
     pub here_opened : here_in s e1 (edits st) (shared_of st.database) sessions1 (variables_of st) ≡ at_level (length (names_in e1 s)) (here st s)

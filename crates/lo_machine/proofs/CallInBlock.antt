@@ -1,7 +1,7 @@
 -- A request on data in a block: one that writes in a level of its own, which is merged into the top level or undone; one that
 -- makes no edit at the top level itself. A request on array variables is done alike outside a block.
-use Rattle.std.proofs.Common.{◌≡◌, ◌≤◌, ◌<◌, ℕ, ◌+◌, ◌-◌, Bool, true, false, List, [], ◌∷◌, ◌++◌, length, take, Option, Some, refl, ap, sym, subst, ◌∙◌, arith, length-append}
-use Rattle.std.specs.Prelude.{All, map, min, nat_lt}
+use Rattle.std.proofs.Common.{◌≡◌, ◌≤◌, ◌<◌, ℕ, ◌+◌, ◌-◌, Bool, true, false, List, [], ◌∷◌, ◌++◌, length, take, Option, Some, None, refl, ap, sym, subst, ◌∙◌, arith, length-append}
+use Rattle.std.specs.Prelude.{map, min, nat_lt}
 use Rattle.std.proofs.lemmas.Bool.Decides.{nat_tests}
 use Rattle.std.proofs.lemmas.List.{take-append-le, take_all}
 use Rattle.std.proofs.lemmas.List.Elements.{All-head, All-tail, All-weaker}
@@ -19,7 +19,7 @@ use Rattle.lo_pages.specs.Outcome.{first_of}
 use Rattle.xact_core.specs.Kept.{HoldsOthers}
 use Rattle.lo_machine.specs.declared.engine.Engine.{Engine}
 use Rattle.lo_machine.specs.CallRow.{call_row, writes, sets, is_call, is_on_data}
-use Rattle.lo_machine.specs.CallRows.{Shared, shared_of, shared_by, session_by, here, called}
+use Rattle.lo_machine.specs.CallRows.{Shared, shared_of, shared_by, session_by, here, called, misplaced_by}
 use Rattle.lo_machine.specs.Dispatch.{here_in, IsGranted, Grants, Refuses, FindsNoMemory, Stays}
 use Rattle.lo_machine.specs.Engine.{xacts_of, clock_of, names_in, Has, HasVariables, StandsFor, Leaves, Becomes, Loses}
 use Rattle.lo_machine.specs.Later.{with_session_at}
@@ -30,9 +30,9 @@ use Rattle.lo_machine.specs.Step.{refusals, tried}
 use Rattle.lo_machine.specs.Well.{IsCursor, IsDescriptor, IsSession}
 use Rattle.lo_machine.proofs.CallAlone.{call_on_data, granted_variables, shared_alike}
 use Rattle.lo_machine.proofs.CallFinds.{set_again, has_same, variables_kept, clock_kept, lost_has, lost_variables, top_same, finds, here_same, has_opened, time_opened, variables_opened, finds_opened, here_opened}
-use Rattle.lo_machine.proofs.CallLevels.{at_level, IsAlike, level_free, call_cursors, AreWithin, writes_level, writes_within, LeavesOthers, sets_alone}
+use Rattle.lo_machine.proofs.CallLevels.{at_level, IsAlike, level_free, AreWithin, writes_level, writes_within, StandWithin, cursors_released, releases_cursors, LeavesOthers, sets_alone}
 use Rattle.lo_machine.proofs.OpenEdits.{AreBelow, all_below, released_both, released_below, undone_below}
-use Rattle.lo_machine.proofs.Outcomes.{first_refusal, tried_granted}
+use Rattle.lo_machine.proofs.Outcomes.{IsPlaced, first_refusal, tried_granted}
 use Rattle.lo_machine.proofs.WellEdits.{own_session, session_again}
 
 -- the end of a level above descriptors, and above cursors, leaves them
@@ -50,16 +50,6 @@ below_within n (d ∷ ds) all =
     let low : d.level ≤ n = All-head (λ (e : Descriptor). e.level ≤ n) d ds all in
     let here : nat_lt d.level (n + 1) ≡ true = grind (arith, nat_tests, low) in
     rw here (ap (λ (rest : List Descriptor). d ∷ rest) (below_within n ds (All-tail (λ (e : Descriptor). e.level ≤ n) d ds all)))
-
-abbrev pub StandWithin : (level : ℕ) → List Cursor → Type 0
-StandWithin n cs = All (λ (c : Cursor). c.level ≤ n) cs
-
-cursors_released : (n : ℕ) (cs : List Cursor) → StandWithin n cs → map (cursor_released (n + 1)) cs ≡ cs
-cursors_released n [] all = refl
-cursors_released n (c ∷ cs) all =
-    let low : c.level ≤ n = All-head (λ (e : Cursor). e.level ≤ n) c cs all in
-    let same : min c.level (n + 1 - 1) ≡ c.level = grind (arith, nat_tests, low) in
-    rw (same, cursors_released n cs (All-tail (λ (e : Cursor). e.level ≤ n) c cs all)) refl
 
 cursors_within : (n : ℕ) (cs : List Cursor) → StandWithin n cs → cursors_below (n + 1) cs ≡ cs
 cursors_within n [] all = refl
@@ -81,8 +71,8 @@ take_whole xs x = take_all (length xs + 1) (xs ++ x ∷ []) (omega (arith, lengt
 abbrev pub having : List Descriptor → List Cursor → Session → Session
 having ds cs session = record { transaction = session.transaction; descriptors = ds; cursors = cs }
 
-merged_again : (name : Option (List ℕ)) (session : Session) (ds : List Descriptor) (cs : List Cursor) → AreWithin (top_level session.transaction) ds → StandWithin (top_level session.transaction) cs → session_released (top_level session.transaction + 1) (having ds cs (session_opened name session)) ≡ having ds cs session
-merged_again name session ds cs all every = rw (take_opened session.transaction.levels name, released_within (top_level session.transaction) ds all, cursors_released (top_level session.transaction) cs every) refl
+merged_again : (name : Option (List ℕ)) (session : Session) (ds : List Descriptor) (cs cs' : List Cursor) → AreWithin (top_level session.transaction) ds → map (cursor_released (top_level session.transaction + 1)) cs ≡ cs' → session_released (top_level session.transaction + 1) (having ds cs (session_opened name session)) ≡ having ds cs' session
+merged_again name session ds cs cs' all every = rw (take_opened session.transaction.levels name, released_within (top_level session.transaction) ds all, every) refl
 
 undone_again : (name : Option (List ℕ)) (session : Session) → session.transaction.failed ≡ false → AreWithin (top_level session.transaction) session.descriptors → StandWithin (top_level session.transaction) session.cursors → session_undone (top_level session.transaction + 1) false (session_opened name session) ≡ session_opened name session
 undone_again name session unfailed all every = rw (take_whole session.transaction.levels name, below_within (top_level session.transaction) session.descriptors all, cursors_within (top_level session.transaction) session.cursors every, unfailed) refl
@@ -92,7 +82,7 @@ owner_open : (now s : ℕ) (levels : List (Option (List ℕ))) → 0 < length le
 owner_open now s [] some = absurd (omega (arith, some))
 owner_open now s (level ∷ levels) some = refl
 
-open_levels : (levels : List (Option (List ℕ))) → 0 < length levels → has_levels levels ≡ true
+pub open_levels : (levels : List (Option (List ℕ))) → 0 < length levels → has_levels levels ≡ true
 open_levels [] some = absurd (omega (arith, some))
 open_levels (level ∷ levels) some = refl
 
@@ -122,7 +112,7 @@ module _ (s : ℕ) (low : 1 ≤ s) (high : s ≤ 16) (e0 : Engine) (st : State) 
   does r = called st s (row r).granted
 
   -- A request that makes no edit, at the session's levels.
-  module _ (e2 : Engine) (holds : HoldsOthers (xacts_of e0) (xacts_of e2)) (r : Request) (data' : is_on_data r ≡ true) where
+  module _ (e2 : Engine) (holds : HoldsOthers (xacts_of e0) (xacts_of e2)) (r : Request) (data' : is_on_data r ≡ true) (placed : IsPlaced st s r) where
     abbrev pub read : Row
     read = call_row r (here_in s e0 (edits st) shared (session_of st) (variables_of st))
 
@@ -134,7 +124,7 @@ module _ (s : ℕ) (low : 1 ≤ s) (high : s ≤ 16) (e0 : Engine) (st : State) 
       granted = subst (λ (one : Row). IsGranted s one e0 e2 reply (edits st) (session_of st) (variables_of st)) same (grants.granted (edits st) shared (session_of st) (variables_of st) (finds s low high e0 st stands))
 
       is_done : tried st s r ≡ does r
-      is_done = tried_granted st s r data' stands.well.uncounted granted.unrefused
+      is_done = tried_granted st s r data' placed stands.well.uncounted granted.unrefused
 
       pub look_reply : reply ≡ (tried st s r).reply
       look_reply = granted.answer ∙ ap (λ (done : Outcome). done.reply) (sym is_done)
@@ -172,7 +162,7 @@ module _ (s : ℕ) (low : 1 ≤ s) (high : s ≤ 16) (e0 : Engine) (st : State) 
 
     pub look_first : (refusal : Refusal) → Refuses s (call_row r) e0 e2 refusal → first_of (refusals st s r) ≡ Some refusal
     look_first refusal refuses =
-        first_refusal st s r data' stands.well.uncounted
+        first_refusal st s r data' placed stands.well.uncounted
         ∙ (ap (λ (one : Row). first_of one.refusals) (sym same)
         ∙ refuses.first (edits st) shared (session_of st) (variables_of st) (finds s low high e0 st stands))
 
@@ -220,7 +210,10 @@ module _ (s : ℕ) (low : 1 ≤ s) (high : s ≤ 16) (e0 : Engine) (st : State) 
     before_below : AreBelow s (top + 1) (edits st)
     before_below = all_below (now st) s (top + 1) (session_of st) (edits st) stands.well.well.past (omega arith)
 
-    module _ (r : Request) (call : is_call r ≡ true) (is_writing : writes r ≡ true) where
+    module _ (r : Request) (call : is_call r ≡ true) (placed' : misplaced_by r true ≡ None) (is_writing : writes r ≡ true) where
+      placed : IsPlaced st s r
+      placed = ap (misplaced_by r) (open_levels mine.transaction.levels some') ∙ placed'
+
       abbrev pub read' : Row
       read' = call_row r (here_in s e1 (edits st) shared sessions1 (variables_of st))
 
@@ -233,12 +226,15 @@ module _ (s : ℕ) (low : 1 ≤ s) (high : s ≤ 16) (e0 : Engine) (st : State) 
       descriptors_alike : read'.granted.descriptors ≡ (row r).granted.descriptors
       descriptors_alike = subst (λ (h : Here). (call_row r h).granted.descriptors ≡ (row r).granted.descriptors) (sym here1) (writes_level r call is_writing (here st s) (length (names_in e1 s)) top)
 
+      cursors_alike : map (cursor_released (top + 1)) read'.granted.cursors ≡ (row r).granted.cursors
+      cursors_alike = subst (λ (h : Here). map (cursor_released (top + 1)) (call_row r h).granted.cursors ≡ (row r).granted.cursors) (sym (here1 ∙ ap (λ (k : ℕ). at_level k (here st s)) names_top)) (releases_cursors r call is_writing top (here st s) stand_within)
+
       module _ (reply : Reply) (grants : Grants s (call_row r) e1 e2 reply) where
         granted' : IsGranted s read' e1 e2 reply (edits st) sessions1 (variables_of st)
         granted' = grants.granted (edits st) shared sessions1 (variables_of st) (finds_opened s low high e0 st stands (Some name) (names_in e0 s ++ Some name ∷ []) e1 opens)
 
         write_tried : tried st s r ≡ does r
-        write_tried = tried_granted st s r (call_on_data r call) stands.well.uncounted (ap first_of (sym alike.refusals) ∙ granted'.unrefused)
+        write_tried = tried_granted st s r (call_on_data r call) placed stands.well.uncounted (ap first_of (sym alike.refusals) ∙ granted'.unrefused)
 
         pub write_reply : reply ≡ (tried st s r).reply
         write_reply = granted'.answer ∙ (alike.reply ∙ ap (λ (done : Outcome). done.reply) (sym write_tried))
@@ -269,9 +265,8 @@ module _ (s : ℕ) (low : 1 ≤ s) (high : s ≤ 16) (e0 : Engine) (st : State) 
                 ap (λ (k : ℕ). session_released k after) level_top
                 ∙ (ap (λ (session : Session). session_released (top + 1) (session_by true read'.granted session)) (own_session s opened (session_of st))
                 ∙ (ap (λ (ds : List Descriptor). session_released (top + 1) (having ds read'.granted.cursors opened)) descriptors_alike
-                ∙ (ap (λ (cs : List Cursor). session_released (top + 1) (having (row r).granted.descriptors cs opened)) alike.cursors
-                ∙ (merged_again (Some name) mine (row r).granted.descriptors (row r).granted.cursors (writes_within r call is_writing top (here st s) within) (subst (StandWithin top) (sym (call_cursors r call (here st s))) stand_within)
-                ∙ ap (λ (b : Bool). session_by b (row r).granted mine) (sym (open_levels mine.transaction.levels some'))))))
+                ∙ (merged_again (Some name) mine (row r).granted.descriptors read'.granted.cursors (row r).granted.cursors (writes_within r call is_writing top (here st s) within) cursors_alike
+                ∙ ap (λ (b : Bool). session_by b (row r).granted mine) (sym (open_levels mine.transaction.levels some')))))
 
             session_same : (t : ℕ) → with_session_at s (session_released level (with_session_at s after sessions1 s)) (with_session_at s after sessions1) t ≡ with_session_at s (session_by (is_open mine.transaction) (row r).granted mine) (session_of st) t
             session_same t =
@@ -281,7 +276,7 @@ module _ (s : ℕ) (low : 1 ≤ s) (high : s ≤ 16) (e0 : Engine) (st : State) 
 
       pub write_first : (refusal : Refusal) → Refuses s (call_row r) e1 e2 refusal → first_of (refusals st s r) ≡ Some refusal
       write_first refusal refuses =
-          first_refusal st s r (call_on_data r call) stands.well.uncounted
+          first_refusal st s r (call_on_data r call) placed stands.well.uncounted
           ∙ (ap first_of (sym alike.refusals)
           ∙ refuses.first (edits st) shared sessions1 (variables_of st) (finds_opened s low high e0 st stands (Some name) (names_in e0 s ++ Some name ∷ []) e1 opens))
 
@@ -291,7 +286,7 @@ module _ (s : ℕ) (low : 1 ≤ s) (high : s ≤ 16) (e0 : Engine) (st : State) 
       undone_session = ap (λ (k : ℕ). session_undone k false opened) level_top ∙ undone_again (Some name) mine unfailed within stand_within
 
       merged_session : session_released level opened ≡ mine
-      merged_session = ap (λ (k : ℕ). session_released k opened) level_top ∙ merged_again (Some name) mine mine.descriptors mine.cursors within stand_within
+      merged_session = ap (λ (k : ℕ). session_released k opened) level_top ∙ merged_again (Some name) mine mine.descriptors mine.cursors mine.cursors within (cursors_released top mine.cursors stand_within)
 
       undone_edits : undone s level (edits st) ≡ edits st
       undone_edits = ap (λ (k : ℕ). undone s k (edits st)) level_top ∙ undone_below s (top + 1) (edits st) before_below

@@ -1,18 +1,22 @@
--- A row looks at the session's level for that of a new descriptor alone. A request that writes opens none, and no request on
--- large objects changes cursors.
-use Rattle.std.proofs.Common.{◌≡◌, ◌≤◌, ℕ, ℤ, pos, Bool, true, false, List, [], Option, Some, None, refl}
-use Rattle.std.specs.Prelude.{All, ◌==◌}
+-- A row looks at the session's level for that of a new descriptor or cursor alone. A request that writes opens no descriptor, and
+-- the release of its own level gives a cursor that it declares to the level below.
+use Rattle.std.proofs.Common.{◌≡◌, ◌≤◌, ℕ, ℤ, pos, ◌+◌, ◌-◌, Bool, true, false, List, [], ◌∷◌, ◌++◌, Option, Some, None, refl, ap, ◌∙◌, arith}
+use Rattle.std.specs.Prelude.{All, ◌==◌, map, min}
 use Rattle.std.proofs.lemmas.Bool.{false≢true}
-use Rattle.std.proofs.lemmas.List.Elements.{All-filter, All-map, All-weaker}
+use Rattle.std.proofs.lemmas.Bool.Decides.{nat_tests}
+use Rattle.std.proofs.lemmas.List.{map-append}
+use Rattle.std.proofs.lemmas.List.Elements.{All-filter, All-head, All-map, All-tail, All-weaker}
 use Rattle.lo_base.specs.declared.reply.Reply.TheVariants.{Number}
 use Rattle.lo_base.specs.declared.request.Request.{Request}
+use Rattle.lo_base.specs.declared.request.Request.TheVariants.{Declare}
 use Rattle.lo_calls.specs.DescriptorRows.{at_descriptor, close_row, cuts_at, open_row, read_at, read_row, seek_at, seek_row, tell_row, truncate_row, write_at, write_row}
 use Rattle.lo_calls.specs.Descriptors.{described_at}
 use Rattle.lo_calls.specs.ObjectRows.{create_row, get_row, put_row, unlink_row}
 use Rattle.lo_calls.specs.Row as objects
-use Rattle.lo_model.specs.Descriptor.{Descriptor, moved_to, with_position}
+use Rattle.lo_model.specs.Descriptor.{Cursor, Descriptor, cursor_released, moved_to, with_position}
 use Rattle.lo_machine.specs.CallRow.{call_row, is_call, writes, sets}
 use Rattle.lo_machine.specs.Row.{Here, Row, Granted, objects_here, on_objects}
+use Rattle.lo_machine.specs.TableRows.{declared}
 use Rattle.lo_machine.proofs.CallCases.{each_call, each_set}
 
 -- what is read, at another level
@@ -30,12 +34,11 @@ at_level level here = record {
   other = here.other;
 }
 
--- two rows that differ in descriptors at most
+-- two rows that differ in descriptors and cursors at most
 pub record IsAlike (a b : Row) : Type 0 where
   pub refusals : a.refusals ≡ b.refusals
   pub reply : a.granted.reply ≡ b.granted.reply
   pub deeds : a.granted.deeds ≡ b.granted.deeds
-  pub cursors : a.granted.cursors ≡ b.granted.cursors
   pub variables : a.granted.variables ≡ b.granted.variables
   pub counter : a.granted.counter ≡ b.granted.counter
   pub tables : a.granted.tables ≡ b.granted.tables
@@ -51,7 +54,6 @@ on_both row here level level' refusals granted = record {
   refusals = refusals;
   reply = granted.reply;
   deeds = granted.deeds;
-  cursors = refl;
   variables = refl;
   counter = granted.counter;
   tables = refl;
@@ -82,6 +84,18 @@ level_free = each_call IsLevelFree record {
   get = get_free;
   put = put_free;
   from_bytea = create_free;
+  create_table = λ name columns here level level'. record { refusals = refl; reply = refl; deeds = refl; variables = refl; counter = refl; tables = refl };
+  insert = λ t values here level level'. record { refusals = refl; reply = refl; deeds = refl; variables = refl; counter = refl; tables = refl };
+  update = λ t i changes here level level'. record { refusals = refl; reply = refl; deeds = refl; variables = refl; counter = refl; tables = refl };
+  delete = λ t i here level level'. record { refusals = refl; reply = refl; deeds = refl; variables = refl; counter = refl; tables = refl };
+  get_row = λ t i here level level'. record { refusals = refl; reply = refl; deeds = refl; variables = refl; counter = refl; tables = refl };
+  ids = λ t here level level'. record { refusals = refl; reply = refl; deeds = refl; variables = refl; counter = refl; tables = refl };
+  slice = λ t i column from count here level level'. record { refusals = refl; reply = refl; deeds = refl; variables = refl; counter = refl; tables = refl };
+  declare = λ cursor t i here level level'. record { refusals = refl; reply = refl; deeds = refl; variables = refl; counter = refl; tables = refl };
+  fetch = λ cursor column from count here level level'. record { refusals = refl; reply = refl; deeds = refl; variables = refl; counter = refl; tables = refl };
+  close_cursor = λ cursor here level level'. record { refusals = refl; reply = refl; deeds = refl; variables = refl; counter = refl; tables = refl };
+  rewrite = λ t storages here level level'. record { refusals = refl; reply = refl; deeds = refl; variables = refl; counter = refl; tables = refl };
+  load = λ name t i column here level level'. record { refusals = refl; reply = refl; deeds = refl; variables = refl; counter = refl; tables = refl };
 }
   where
     create_free : (o : ℕ) (bytes : List ℕ) (here : Here) (level level' : ℕ) → IsAlike (on_objects (create_row o bytes) (at_level level here)) (on_objects (create_row o bytes) (at_level level' here))
@@ -116,31 +130,6 @@ level_free = each_call IsLevelFree record {
 
     put_free : (o : ℕ) (at : ℤ) (bytes : List ℕ) (here : Here) (level level' : ℕ) → IsAlike (on_objects (put_row o at bytes) (at_level level here)) (on_objects (put_row o at bytes) (at_level level' here))
     put_free o at bytes here level level' = on_both (put_row o at bytes) here level level' refl record { reply = refl; deeds = refl; counter = refl }
-
--- cursors stay as they are
-
-abbrev pub KeepsCursors : Request → Type 0
-KeepsCursors r = (here : Here) → (call_row r here).granted.cursors ≡ here.cursors
-
-pub call_cursors : (r : Request) → is_call r ≡ true → KeepsCursors r
-call_cursors = each_call KeepsCursors record {
-  creat = λ mode here. refl;
-  create = λ o here. refl;
-  open' = λ o mode here. refl;
-  close = λ fd here. refl;
-  read = λ fd count here. refl;
-  write = λ fd bytes here. refl;
-  seek = λ fd offset whence here. refl;
-  seek64 = λ fd offset whence here. refl;
-  tell = λ fd here. refl;
-  tell64 = λ fd here. refl;
-  truncate = λ fd size here. refl;
-  truncate64 = λ fd size here. refl;
-  unlink = λ o here. refl;
-  get = λ o from count here. refl;
-  put = λ o at bytes here. refl;
-  from_bytea = λ o bytes here. refl;
-}
 
 -- descriptors of no level above one
 
@@ -180,6 +169,18 @@ writes_level = each_call WritesAlike record {
   get = λ o from count is. absurd (false≢true is);
   put = λ o at bytes is here level level'. refl;
   from_bytea = λ o bytes is here level level'. refl;
+  create_table = λ name columns is here level level'. refl;
+  insert = λ t values is here level level'. refl;
+  update = λ t i changes is here level level'. refl;
+  delete = λ t i is here level level'. refl;
+  get_row = λ t i is. absurd (false≢true is);
+  ids = λ t is. absurd (false≢true is);
+  slice = λ t i column from count is. absurd (false≢true is);
+  declare = λ cursor t i is here level level'. refl;
+  fetch = λ cursor column from count is. absurd (false≢true is);
+  close_cursor = λ cursor is. absurd (false≢true is);
+  rewrite = λ t storages is here level level'. refl;
+  load = λ name t i column is. absurd (false≢true is);
 }
   where
     moved_same : (here : Here) (level level' : ℕ) (bytes : List ℕ) (o : Option Descriptor) → (at_descriptor (objects_here (at_level level here)) (write_at (objects_here (at_level level here)) bytes) o).descriptors ≡ (at_descriptor (objects_here (at_level level' here)) (write_at (objects_here (at_level level' here)) bytes) o).descriptors
@@ -211,6 +212,18 @@ writes_within = each_call WritesWithin record {
   get = λ o from count is. absurd (false≢true is);
   put = λ o at bytes is n here all. all;
   from_bytea = λ o bytes is n here all. all;
+  create_table = λ name columns is n here all. all;
+  insert = λ t values is n here all. all;
+  update = λ t i changes is n here all. all;
+  delete = λ t i is n here all. all;
+  get_row = λ t i is. absurd (false≢true is);
+  ids = λ t is. absurd (false≢true is);
+  slice = λ t i column from count is. absurd (false≢true is);
+  declare = λ cursor t i is n here all. all;
+  fetch = λ cursor column from count is. absurd (false≢true is);
+  close_cursor = λ cursor is. absurd (false≢true is);
+  rewrite = λ t storages is n here all. all;
+  load = λ name t i column is. absurd (false≢true is);
 }
   where
     moved : (n : ℕ) (here : Here) (bytes : List ℕ) → AreWithin n here.descriptors → (o : Option Descriptor) → AreWithin n (at_descriptor (objects_here here) (write_at (objects_here here) bytes) o).descriptors
@@ -220,6 +233,60 @@ writes_within = each_call WritesWithin record {
     cut : (n : ℕ) (here : Here) (size : ℤ) → AreWithin n here.descriptors → (o : Option Descriptor) → AreWithin n (at_descriptor (objects_here here) (λ d. objects.edited (objects_here here) (Number (pos 0)) (cuts_at size d)) o).descriptors
     cut n here size all None = all
     cut n here size all (Some d) = all
+
+-- cursors of no level above one: the release of the level above leaves them, and gives a new cursor of its own to the level below
+
+abbrev pub StandWithin : (level : ℕ) → List Cursor → Type 0
+StandWithin n cs = All (λ (c : Cursor). c.level ≤ n) cs
+
+pub cursors_released : (n : ℕ) (cs : List Cursor) → StandWithin n cs → map (cursor_released (n + 1)) cs ≡ cs
+cursors_released n [] all = refl
+cursors_released n (c ∷ cs) all =
+    let low : c.level ≤ n = All-head (λ (e : Cursor). e.level ≤ n) c cs all in
+    let same : min c.level (n + 1 - 1) ≡ c.level = grind (arith, nat_tests, low) in
+    rw (same, cursors_released n cs (All-tail (λ (e : Cursor). e.level ≤ n) c cs all)) refl
+
+abbrev pub ReleasesCursors : Request → Type 0
+ReleasesCursors r = writes r ≡ true → (n : ℕ) (here : Here) → StandWithin n here.cursors → map (cursor_released (n + 1)) (call_row r (at_level (n + 1) here)).granted.cursors ≡ (call_row r (at_level n here)).granted.cursors
+
+pub releases_cursors : (r : Request) → is_call r ≡ true → ReleasesCursors r
+releases_cursors = each_call ReleasesCursors record {
+  creat = λ mode is n here all. cursors_released n here.cursors all;
+  create = λ o is n here all. cursors_released n here.cursors all;
+  open' = λ o mode is. absurd (false≢true is);
+  close = λ fd is. absurd (false≢true is);
+  read = λ fd count is. absurd (false≢true is);
+  write = λ fd bytes is n here all. cursors_released n here.cursors all;
+  seek = λ fd offset whence is. absurd (false≢true is);
+  seek64 = λ fd offset whence is. absurd (false≢true is);
+  tell = λ fd is. absurd (false≢true is);
+  tell64 = λ fd is. absurd (false≢true is);
+  truncate = λ fd size is n here all. cursors_released n here.cursors all;
+  truncate64 = λ fd size is n here all. cursors_released n here.cursors all;
+  unlink = λ o is n here all. cursors_released n here.cursors all;
+  get = λ o from count is. absurd (false≢true is);
+  put = λ o at bytes is n here all. cursors_released n here.cursors all;
+  from_bytea = λ o bytes is n here all. cursors_released n here.cursors all;
+  create_table = λ name columns is n here all. cursors_released n here.cursors all;
+  insert = λ t values is n here all. cursors_released n here.cursors all;
+  update = λ t i changes is n here all. cursors_released n here.cursors all;
+  delete = λ t i is n here all. cursors_released n here.cursors all;
+  get_row = λ t i is. absurd (false≢true is);
+  ids = λ t is. absurd (false≢true is);
+  slice = λ t i column from count is. absurd (false≢true is);
+  declare = declared_released;
+  fetch = λ cursor column from count is. absurd (false≢true is);
+  close_cursor = λ cursor is. absurd (false≢true is);
+  rewrite = λ t storages is n here all. cursors_released n here.cursors all;
+  load = λ name t i column is. absurd (false≢true is);
+}
+  where
+    declared_released : (cursor t : List ℕ) (i : ℤ) → ReleasesCursors (Declare cursor t i)
+    declared_released cursor t i is n here all =
+        let same : min (n + 1) (n + 1 - 1) ≡ n = grind (arith, nat_tests) in
+        map-append (cursor_released (n + 1)) here.cursors (declared (at_level (n + 1) here) cursor t i ∷ [])
+        ∙ (ap (λ (k : ℕ). map (cursor_released (n + 1)) here.cursors ++ record { name = cursor; table = t; id = i; level = k; clock = here.now } ∷ []) same
+        ∙ ap (λ (cs : List Cursor). cs ++ declared (at_level n here) cursor t i ∷ []) (cursors_released n here.cursors all))
 
 -- one on array variables makes no edit, and leaves descriptors and cursors
 

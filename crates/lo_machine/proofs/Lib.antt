@@ -1,4 +1,14 @@
 mod ArrayExamples
+pub mod ArraySought
+pub mod CellsTold
+pub mod FlatFound
+pub mod RowJudged
+pub mod ChangesJudged
+pub mod FlatEdits
+pub mod FlatLiterals
+pub mod FlatStates
+pub mod Unmet
+pub mod Judging
 pub mod CallAlone
 pub mod CallCases
 pub mod CallFinds
@@ -45,3 +55,9 @@ pub mod BlockAnswers
 pub mod BlockRequests
 pub mod Steps
 mod WordsOfExamples
+pub mod NamedCursors
+pub mod CursorsAlike
+pub mod TableCalls
+pub mod TablesAlike
+pub mod LinesAlike
+pub mod RewritesAlike

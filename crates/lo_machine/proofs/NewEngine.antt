@@ -25,6 +25,9 @@ well_start = record {
     each = λ s. record { first = tt; descriptors = λ place d within. absurd (omega (arith, within)); none = λ is. refl; unfailed = λ is. refl; cursors = λ place c within. absurd (omega (arith, within)); no_cursors = λ is. refl };
   };
   uncounted = refl;
+  flat = λ place e within. absurd (omega (arith, within));
+  named = tt;
+  held = λ s place v within. absurd (omega (arith, within));
 }
 
 -- sessions without descriptors hold no view

@@ -5,8 +5,6 @@ use Rattle.std.specs.List.{find}
 use Rattle.std.proofs.lemmas.List.{map-append, length-map}
 use Rattle.std.proofs.lemmas.List.Elements.{All-head, All-tail}
 use Rattle.std.specs.Option.{IfSome}
-use Rattle.lo_base.specs.declared.request.Request.{Request}
-use Rattle.lo_base.specs.declared.request.Request.TheVariants.{LoCreat, LoCreate, LoOpen, LoClose, LoRead, LoWrite, LoLseek, LoLseek64, LoTell, LoTell64, LoTruncate, LoTruncate64, LoUnlink, LoGet, LoPut, LoFromBytea}
 use Rattle.lo_calls.specs.DescriptorRows.{may_write, open_row, close_row, read_row, write_row, seek_row, tell_row, truncate_row, bytes_at}
 use Rattle.lo_calls.specs.Descriptors.{described_at}
 use Rattle.lo_calls.specs.ObjectRows.{create_row, unlink_row, get_row, put_row, picked, number_for, writes}
@@ -21,10 +19,7 @@ use Rattle.lo_model.specs.Edit.{Deed, Create, Edit}
 use Rattle.lo_model.specs.Numbering.{picked_oid, may_be_picked, least_from, oid_end}
 use Rattle.lo_model.specs.View.{view}
 use Rattle.lo_machine.specs.Alike.{SeesNone, ReadsNone, AreAlike, IsSameRow}
-use Rattle.lo_machine.specs.CallRow.{call_row, is_call}
 use Rattle.lo_machine.specs.Later.{later, later_reading, all_later}
-use Rattle.lo_machine.specs.Row.{on_objects}
-use Rattle.lo_machine.proofs.CallCases.{each_call}
 use Rattle.lo_machine.proofs.ObjectDeeds.{AreOfObjects, close_deeds, create_deeds, get_deeds, open_deeds, put_deeds, read_deeds, seek_deeds, tell_deeds, truncate_deeds, unlink_deeds, write_deeds}
 
 -- descriptors of later views
@@ -265,63 +260,3 @@ tell_alike wide fd = record { alike = alike_by (tell_row wide fd) (λ n s l l' c
 
 pub truncate_alike : (fd size : ℤ) → IsObjectsRow (truncate_row fd size)
 truncate_alike fd size = record { alike = alike_by (truncate_row fd size) (λ n s l l' counter ds es views kept. truncate n s l l' counter ds es views kept fd size); deeds = λ here. truncate_deeds here fd size }
-
--- Each request on large objects has a row of lo_calls. What it is of others is of no account.
-abbrev pub objects_row : Request → Here → Row
-objects_row (LoCreat mode) = create_row 0 []
-objects_row (LoCreate o) = create_row o []
-objects_row (LoOpen o mode) = open_row o mode
-objects_row (LoClose fd) = close_row fd
-objects_row (LoRead fd count) = read_row fd count
-objects_row (LoWrite fd bytes) = write_row fd bytes
-objects_row (LoLseek fd offset whence) = seek_row false fd offset whence
-objects_row (LoLseek64 fd offset whence) = seek_row true fd offset whence
-objects_row (LoTell fd) = tell_row false fd
-objects_row (LoTell64 fd) = tell_row true fd
-objects_row (LoTruncate fd size) = truncate_row fd size
-objects_row (LoTruncate64 fd size) = truncate_row fd size
-objects_row (LoUnlink o) = unlink_row o
-objects_row (LoGet o from count) = get_row o from count
-objects_row (LoPut o at bytes) = put_row o at bytes
-objects_row (LoFromBytea o bytes) = create_row o bytes
-objects_row _ = create_row 0 []
-
-pub is_objects_row : (r : Request) → is_call r ≡ true → call_row r ≡ on_objects (objects_row r)
-is_objects_row = each_call (λ r. call_row r ≡ on_objects (objects_row r)) record {
-  creat = λ mode. refl;
-  create = λ o. refl;
-  open' = λ o mode. refl;
-  close = λ fd. refl;
-  read = λ fd count. refl;
-  write = λ fd bytes. refl;
-  seek = λ fd offset whence. refl;
-  seek64 = λ fd offset whence. refl;
-  tell = λ fd. refl;
-  tell64 = λ fd. refl;
-  truncate = λ fd size. refl;
-  truncate64 = λ fd size. refl;
-  unlink = λ o. refl;
-  get = λ o from count. refl;
-  put = λ o at bytes. refl;
-  from_bytea = λ o bytes. refl;
-}
-
-pub objects_alike : (r : Request) → is_call r ≡ true → IsObjectsRow (objects_row r)
-objects_alike = each_call (λ r. IsObjectsRow (objects_row r)) record {
-  creat = λ mode. create_alike 0 [];
-  create = λ o. create_alike o [];
-  open' = open_alike;
-  close = close_alike;
-  read = read_alike;
-  write = write_alike;
-  seek = seek_alike false;
-  seek64 = seek_alike true;
-  tell = tell_alike false;
-  tell64 = tell_alike true;
-  truncate = truncate_alike;
-  truncate64 = truncate_alike;
-  unlink = unlink_alike;
-  get = get_alike;
-  put = put_alike;
-  from_bytea = create_alike;
-}

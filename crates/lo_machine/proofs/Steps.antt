@@ -16,7 +16,7 @@ use Rattle.row_tables.proofs.Resting.{for_ticked}
 use Rattle.xact_core.specs.Transactions.{Transactions, levels_of}
 use Rattle.lo_machine.specs.declared.engine.Engine.{Engine}
 use Rattle.lo_machine.specs.Engine.{xacts_of, HasRows, IsEngine, HasSession, with_variables_at, StandsFor, Serves, Leaves, Does}
-use Rattle.lo_machine.specs.Served.{is_served}
+use Rattle.lo_machine.specs.Served.{IsRanged, IsServed, is_served}
 use Rattle.lo_machine.specs.State.{State, Outcome, session_of, variables_of, refused, with_player, state_with}
 use Rattle.lo_machine.specs.Step.{refusals, may_go_on, failed, refusal_of, granted_or_refused, tried, outcome}
 use Rattle.lo_machine.specs.Terms.{refusal}
@@ -130,9 +130,9 @@ ticked_stands e st s done leaves well = record {
   well = well;
 }
 
-pub served : (old new : Engine) (x : Transactions) (s : ℕ) (r : Request) (reply : Reply) → is_served r ≡ true → x ≡ later_at (xacts_of new) → Does old new s (λ st. outcome st s r) reply → Serves old (with_xacts new x) s r (Ok reply)
-served old new x s r reply serves is does = subst (λ (y : Transactions). Serves old (with_xacts new y) s r (Ok reply)) (sym is) record {
-  ok = λ st stands. (does.reply st stands, ticked_stands new st s (outcome st s r) (does.leaves st stands) (well_after st s r serves stands.well));
+pub served : (old new : Engine) (x : Transactions) (s : ℕ) (r : Request) (reply : Reply) → IsServed r → IsRanged r → x ≡ later_at (xacts_of new) → Does old new s (λ st. outcome st s r) reply → Serves old (with_xacts new x) s r (Ok reply)
+served old new x s r reply serves ranged is does = subst (λ (y : Transactions). Serves old (with_xacts new y) s r (Ok reply)) (sym is) record {
+  ok = λ st stands. (does.reply st stands, ticked_stands new st s (outcome st s r) (does.leaves st stands) (well_after st s r serves.0 serves.1 ranged stands.well));
   time = ap (λ (n : ℕ). n + 1) does.time;
   err = tt;
   stays = tt;

@@ -1,20 +1,18 @@
 -- States stay well through the requests that are served.
 use Rattle.std.proofs.Common.{◌≡◌, ◌≤◌, ℕ, ℤ, pos, ◌+◌, ◌-◌, Bool, true, false, not, List, [], ◌∷◌, length, Option, Some, None, is_none, refl, ap, sym, subst, ◌∙◌, arith, length-append, length-take}
-use Rattle.std.specs.Prelude.{All, ◌==◌, if◌then◌else◌, is_some}
+use Rattle.std.specs.Prelude.{All, ◌==◌, bytes_eq, if◌then◌else◌, is_some}
 use Rattle.std.proofs.lemmas.Bool.{true≢false, false≢true}
-use Rattle.std.proofs.lemmas.List.Elements.{All-nil, All-append, All-weaker}
-use Rattle.lo_base.specs.declared.refusal.Cause.{Cause}
+use Rattle.std.proofs.lemmas.List.Elements.{All-nil, All-cons, All-append, All-filter, All-weaker}
 use Rattle.lo_base.specs.declared.refusal.Cause.TheVariants.{NoBlock, NoSavepoint}
 use Rattle.lo_base.specs.declared.refusal.Refusal.{Refusal}
 use Rattle.lo_base.specs.declared.reply.Reply.{Reply}
 use Rattle.lo_base.specs.declared.reply.Reply.TheVariants.{Word, Refused}
 use Rattle.lo_base.specs.declared.reply.Word.TheVariants as words
 use Rattle.lo_base.specs.declared.request.Request.{Request}
-use Rattle.lo_base.specs.declared.request.Request.TheVariants.{Begin, Commit, Rollback, Savepoint, Release, RollbackTo, LoCreat, LoCreate, LoOpen, LoClose, LoRead, LoWrite, LoLseek, LoLseek64, LoTell, LoTell64, LoTruncate, LoTruncate64, LoUnlink, LoGet, LoPut, LoFromBytea, Vacuum, Step, Finish, Array, Set, Elem, Show}
+use Rattle.lo_base.specs.declared.request.Request.TheVariants.{Begin, Commit, Rollback, Savepoint, Release, RollbackTo, LoCreat, LoCreate, LoOpen, LoClose, LoRead, LoWrite, LoLseek, LoLseek64, LoTell, LoTell64, LoTruncate, LoTruncate64, LoUnlink, LoGet, LoPut, LoFromBytea, CreateTable, Insert, Update, Delete, Get, Ids, Slice, Declare, Fetch, Close, Rewrite, Vacuum, Step, Finish, Array, Load, Set, Elem, Show}
 use Rattle.lo_calls.specs.DescriptorRows.{may_write, opened_by, open_row, close_row, read_row, write_row, seek_row, tell_row, truncate_row}
 use Rattle.lo_calls.specs.ObjectRows.{create_row, unlink_row, get_row, put_row}
 use Rattle.lo_calls.specs.Row as objects
-use Rattle.lo_calls.specs.Terms.{when}
 use Rattle.lo_model.specs.declared.owner.Owner.{Owner}
 use Rattle.lo_model.specs.declared.owner.Owner.TheVariants.{Running, Committed}
 use Rattle.lo_model.specs.Descriptor.{Kept, Current, Descriptor, Cursor, moved_to}
@@ -23,17 +21,26 @@ use Rattle.lo_model.specs.Levels.{released, undone, committed, aborted}
 use Rattle.lo_model.specs.Session.{Session, idle_session, session_begun, session_saved, session_released, session_undone}
 use Rattle.lo_model.specs.Transaction.{top_level, has_levels, is_open}
 use Rattle.lo_pages.specs.Outcome.{first_of}
-use Rattle.lo_machine.specs.ArrayRows.{array_line, elem_line, set_line, show_line}
+use Rattle.row_tables.specs.CursorRules as cursors
+use Rattle.row_tables.specs.RewriteRules.{rewrite_row}
+use Rattle.row_tables.specs.Row as tables
+use Rattle.row_tables.specs.RowRules.{create_table_row, delete_row, ids_row, slice_row}
+use Rattle.lo_machine.specs.ArrayRows.{array_line, elem_line, load_line, set_line, show_line}
 use Rattle.lo_machine.specs.CallRows.{here, kept_open, called, call_granted, session_by}
 use Rattle.lo_machine.specs.Later.{with_session_at}
-use Rattle.lo_machine.specs.Row.{Granted, objects_here, on_objects}
-use Rattle.lo_machine.specs.Served.{is_served}
+use Rattle.lo_machine.specs.Row.{Granted, objects_here, on_objects, on_tables, tables_here}
+use Rattle.lo_machine.specs.Served.{IsRanged, is_served}
+use Rattle.lo_machine.specs.Spelled.{IsSpelled}
 use Rattle.lo_machine.specs.State.{State, Outcome, now, edits, session_of, with_player, state_with, answered, left_with, refused_in, refused, owner_in, and_made}
 use Rattle.lo_machine.specs.Step.{refusals, granted, failed, refusal_of, granted_or_refused, told_sweep, state_after}
+use Rattle.lo_machine.specs.TableRows.{declare_line, get_line, insert_line, update_line}
+use Rattle.lo_machine.specs.TableRows as rows
 use Rattle.lo_machine.specs.Terms.{no_block}
 use Rattle.lo_machine.specs.TransactionRows.{level_named, no_savepoint, level_or_0, begun, rolled_back, committed_in, released_to, undone_to}
-use Rattle.lo_machine.specs.Well.{IsOwner, IsPast, IsQuietAt, IsQuiet, IsDescriptor, IsCursor, IsSession, AreWell, IsWell}
+use Rattle.lo_machine.specs.Well.{IsOwner, IsPast, IsQuietAt, IsQuiet, IsDescriptor, IsCursor, IsSession, AreHeld, AreWell, IsWell}
+use Rattle.lo_machine.proofs.FlatStates.{IsKept, outcome_kept}
 use Rattle.lo_machine.proofs.NewestLevel.{newest_bounds}
+use Rattle.lo_machine.proofs.Unmet.{first_none, unmet}
 use Rattle.lo_machine.proofs.WellEdits.{StayQuiet, own_session, each_session, past_kept, past_released, past_committed, past_undone, past_made, quiet_same, quiet_released, quiet_committed, quiet_undone, quiet_made, quiet_now, all_described_later, all_cursors_later, session_later}
 use Rattle.lo_machine.proofs.WellRows.{close_leaves, unlink_leaves, tell_leaves, truncate_leaves, open_leaves, read_leaves, write_leaves, seek_leaves}
 use Rattle.lo_machine.proofs.WellSessions.{open_top, none_open, idle_well, begun_well, saved_well, released_well, undone_well}
@@ -64,20 +71,22 @@ player_as st s done t = by (t == s)
     by true = refl
     by false = refl
 
-well_with : (st : State) (s : ℕ) (done : Outcome) → IsWell st → IsGood st s done → IsWell (state_with st s done)
-well_with st s done well good = record {
+-- a session's variables in that state
+held_as : (st : State) (s : ℕ) (done : Outcome) → IsWell st → AreHeld done.player.variables → (t : ℕ) → AreHeld (with_player s done.player st.players t).variables
+held_as st s done well held t = by (t == s)
+  where
+    by : (b : Bool) → AreHeld (if b then done.player else st.players t).variables
+    by true = held
+    by false = well.held t
+
+well_with : (st : State) (s : ℕ) (done : Outcome) → IsWell st → IsGood st s done → IsKept done → IsWell (state_with st s done)
+well_with st s done well good kept = record {
   well = well_as (now st + 1) done.database.edits (with_session_at s done.player.session (session_of st)) (session_of (state_with st s done)) (player_as st s done) good;
   uncounted = well.uncounted;
+  flat = kept.flat;
+  named = kept.named;
+  held = held_as st s done well kept.held;
 }
-
--- terms that do not hold
-first_none : (term : Option Refusal) (terms : List (Option Refusal)) → first_of (term ∷ terms) ≡ None → (term ≡ None) × (first_of terms ≡ None)
-first_none None terms is = (refl, is)
-first_none (Some r) terms is = absurd (let no : Some r ≡ None = is in cc)
-
-unmet : (test : Bool) (cause : Cause) (subject : ℤ) → when test cause subject ≡ None → test ≡ false
-unmet false cause subject is = refl
-unmet true cause subject is = absurd (let no : Some (record { cause = cause; subject = subject }) ≡ None = is in cc)
 
 module _ (st : State) (s : ℕ) (well : IsWell st) where
   abbrev n : ℕ
@@ -223,6 +232,23 @@ module _ (st : State) (s : ℕ) (well : IsWell st) where
       by true = tt
       by false = (omega arith, All-append (IsQuietAt n) es [] (quiet_now n sessions es well.well.past) (All-nil (IsQuietAt n)))
 
+  -- a call on tables, which leaves descriptors, and cursors as they are
+  on_rows_good : (row : tables.Here → tables.Row) → (row (tables_here (here st s))).granted.cursors ≡ mine.cursors → IsGood st s (call_granted st s (on_tables row))
+  on_rows_good row same = called_good (on_tables row (here st s)).granted (λ all. all) (λ all. subst (All (declared (row (tables_here (here st s))).granted.deeds)) (sym same) all)
+
+  -- a cursor that is declared, and those that are left where one is closed
+
+  declares : (name t : List ℕ) (i : ℤ) → declared [] (rows.declared (here st s) name t i)
+  declares name t i = record { level = omega arith; quiet = (omega arith, All-append (IsQuietAt n) es [] (quiet_now n sessions es well.well.past) (All-nil (IsQuietAt n))) }
+
+  declare_good : (name t : List ℕ) (i : ℤ) → IsGood st s (call_granted st s (declare_line name t i))
+  declare_good name t i =
+      let new : Cursor = rows.declared (here st s) name t i in
+      called_good (declare_line name t i (here st s)).granted (λ all. all) (λ all. All-append (declared []) mine.cursors (new ∷ []) all (All-cons (declared []) new [] (declares name t i) (All-nil (declared []))))
+
+  close_good : (name : List ℕ) → IsGood st s (call_granted st s (on_tables (cursors.close_row name)))
+  close_good name = called_good (on_tables (cursors.close_row name) (here st s)).granted (λ all. all) (λ all. All-filter (λ (c : Cursor). not (bytes_eq c.name name)) (declared []) mine.cursors all)
+
   -- No term of a refusal holds.
 
   inside : (rest : List (Option Refusal)) → first_of (no_block st s ∷ rest) ≡ None → 1 ≤ length names
@@ -265,7 +291,19 @@ module _ (st : State) (s : ℕ) (well : IsWell st) where
   all_good (LoGet o from count) served none = on_objects_good (get_row o from count) (λ all. all)
   all_good (LoPut o at bytes) served none = on_objects_good (put_row o at bytes) (λ all. all)
   all_good (LoFromBytea o bytes) served none = on_objects_good (create_row o bytes) (λ all. all)
+  all_good (CreateTable name columns) served none = on_rows_good (create_table_row name columns) refl
+  all_good (Insert t values) served none = called_good (insert_line t values (here st s)).granted (λ all. all) (λ all. all)
+  all_good (Update t i changes) served none = called_good (update_line t i changes (here st s)).granted (λ all. all) (λ all. all)
+  all_good (Delete t i) served none = on_rows_good (delete_row t i) refl
+  all_good (Get t i) served none = called_good (get_line t i (here st s)).granted (λ all. all) (λ all. all)
+  all_good (Ids t) served none = on_rows_good (ids_row t) refl
+  all_good (Slice t i column from count) served none = on_rows_good (slice_row t i column from count) refl
+  all_good (Declare name t i) served none = declare_good name t i
+  all_good (Fetch name column from count) served none = on_rows_good (cursors.fetch_row name column from count) refl
+  all_good (Close name) served none = close_good name
+  all_good (Rewrite t storages) served none = on_rows_good (rewrite_row t storages) refl
   all_good (Array name text) served none = called_good (array_line name text (here st s)).granted (λ all. all) (λ all. all)
+  all_good (Load name t i column) served none = called_good (load_line name t i column (here st s)).granted (λ all. all) (λ all. all)
   all_good (Set name sub value) served none = called_good (set_line name sub value (here st s)).granted (λ all. all) (λ all. all)
   all_good (Elem name sub) served none = called_good (elem_line name sub (here st s)).granted (λ all. all) (λ all. all)
   all_good (Show name) served none = called_good (show_line name (here st s)).granted (λ all. all) (λ all. all)
@@ -286,7 +324,7 @@ untold st s Step refused done served = absurd (false≢true served)
 untold st s Finish refused done served = absurd (false≢true served)
 untold st s r refused done served = refl
 
-pub well_after : (st : State) (s : ℕ) (r : Request) → is_served r ≡ true → IsWell st → IsWell (state_after st s r)
-well_after st s r served well =
+pub well_after : (st : State) (s : ℕ) (r : Request) → is_served r ≡ true → IsSpelled r → IsRanged r → IsWell st → IsWell (state_after st s r)
+well_after st s r served spelled ranged well =
     subst (λ (done : Outcome). IsWell (state_with st s done)) (sym (untold st s r (is_some (refusal_of st s r)) (granted_or_refused st s r (refusal_of st s r)) served))
-    (well_with st s (granted_or_refused st s r (refusal_of st s r)) well (outcome_good st s well r served))
+    (well_with st s (granted_or_refused st s r (refusal_of st s r)) well (outcome_good st s well r served) (outcome_kept st s well r served spelled ranged))

@@ -47,29 +47,55 @@ call_row (Elem name sub) = elem_line name sub
 call_row (Show name) = show_line name
 call_row _ = on_objects (create_row 0 [])
 
--- The kinds of those that are served: those that may make edits
-abbrev pub writes : Request → Bool
-writes (LoCreat mode) = true
-writes (LoCreate o) = true
-writes (LoWrite fd bytes) = true
-writes (LoTruncate fd size) = true
-writes (LoTruncate64 fd size) = true
-writes (LoUnlink o) = true
-writes (LoPut o at bytes) = true
-writes (LoFromBytea o bytes) = true
-writes _ = false
+-- those that may make edits, tables or cursors
 
--- those that make none, and look at objects or descriptors
+abbrev pub writes_objects : Request → Bool
+writes_objects (LoCreat mode) = true
+writes_objects (LoCreate o) = true
+writes_objects (LoWrite fd bytes) = true
+writes_objects (LoTruncate fd size) = true
+writes_objects (LoTruncate64 fd size) = true
+writes_objects (LoUnlink o) = true
+writes_objects (LoPut o at bytes) = true
+writes_objects (LoFromBytea o bytes) = true
+writes_objects _ = false
+
+abbrev pub writes_rows : Request → Bool
+writes_rows (CreateTable name columns) = true
+writes_rows (Insert t values) = true
+writes_rows (Update t i changes) = true
+writes_rows (Delete t i) = true
+writes_rows (Declare cursor t i) = true
+writes_rows (Rewrite t storages) = true
+writes_rows _ = false
+
+abbrev pub writes : Request → Bool
+writes r = writes_objects r || writes_rows r
+
+-- those that make none, and look at objects and descriptors, or at tables and cursors
+
+abbrev pub reads_objects : Request → Bool
+reads_objects (LoOpen o mode) = true
+reads_objects (LoClose fd) = true
+reads_objects (LoRead fd length) = true
+reads_objects (LoLseek fd offset whence) = true
+reads_objects (LoLseek64 fd offset whence) = true
+reads_objects (LoTell fd) = true
+reads_objects (LoTell64 fd) = true
+reads_objects (LoGet o from length) = true
+reads_objects _ = false
+
+abbrev pub reads_rows : Request → Bool
+reads_rows (Get t i) = true
+reads_rows (Ids t) = true
+reads_rows (Slice t i column from length) = true
+reads_rows (Fetch cursor column from length) = true
+reads_rows (Close cursor) = true
+reads_rows (Load name t i column) = true
+reads_rows _ = false
+
 abbrev pub reads : Request → Bool
-reads (LoOpen o mode) = true
-reads (LoClose fd) = true
-reads (LoRead fd length) = true
-reads (LoLseek fd offset whence) = true
-reads (LoLseek64 fd offset whence) = true
-reads (LoTell fd) = true
-reads (LoTell64 fd) = true
-reads (LoGet o from length) = true
-reads _ = false
+reads r = reads_objects r || reads_rows r
 
 -- those on array variables alone
 abbrev pub sets : Request → Bool

@@ -17,6 +17,7 @@ use Rattle.lo_machine.specs.declared.engine.Engine.{Engine}
 use Rattle.lo_machine.specs.Alike.{SeesNone, ReadsNone}
 use Rattle.lo_machine.specs.CallRows.{Shared, here_at, session_by, shared_by}
 use Rattle.lo_machine.specs.Engine.{xacts_of, clock_of, names_in, IsEngine, HasRows, HasSessions, Has, HasVariables, with_variables_at, StandsFor, Does, Undone}
+use Rattle.lo_machine.specs.FlatRows.{AreFlatRows}
 use Rattle.lo_machine.specs.Later.{with_session_at}
 use Rattle.lo_machine.specs.Row.{Here, Row}
 use Rattle.lo_machine.specs.State.{State, Variable}
@@ -30,13 +31,14 @@ pub record CanCall (session : ℕ) (e : Engine) : Type 0 where
   pub views : length (kept_views (xacts_of e)) < 2 ^ 64 - 4
 
 -- What an engine has where a session calls. No edit was made at the present clock, nor at those of the views that the session's
--- descriptors and cursors keep.
+-- descriptors and cursors keep. Every row that was put has flat bytes in its array columns.
 pub record Finds (session : ℕ) (e : Engine) (ys : List (Edit Deed)) (shared : Shared) (sessions : ℕ → Session) (variables : ℕ → List Variable) : Type 0 where
   pub has : Has e ys shared sessions
   pub arrays : HasVariables e variables
   pub views : SeesNone ys (clock_of e)
   pub kept : All (λ (d : Descriptor). ReadsNone ys d.reading) (sessions session).descriptors
   pub cursors : All (λ (c : Cursor). SeesNone ys c.clock) (sessions session).cursors
+  pub flat : AreFlatRows shared.tables ys
 
 -- what the call's row reads of it
 abbrev pub here_in : (session : ℕ) → Engine → List (Edit Deed) → Shared → (ℕ → Session) → (ℕ → List Variable) → Here

@@ -5,7 +5,9 @@ pub mod CallRows
 pub mod Committed
 pub mod Dispatch
 pub mod Engine
+pub mod FlatRows
 pub mod Later
+pub mod Literals
 pub mod Moves
 pub mod NewEngine
 pub mod Program

@@ -1,12 +1,18 @@
 -- What holds of every state that requests which are served lead to.
 use Rattle.std.specs.Prelude.{◌≡◌, ◌≢◌, ◌<◌, ◌≤◌, ℕ, false, List, [], ◌∷◌, All, Option, None}
+use Rattle.std.specs.List.{AllByRecursion}
+use Rattle.expanded_array.specs.Array.{IsHeld}
 use Rattle.lo_model.specs.declared.owner.Owner.{Owner}
 use Rattle.lo_model.specs.declared.owner.Owner.TheVariants.{Running, Committed}
+use Rattle.lo_model.specs.Database.{Table}
 use Rattle.lo_model.specs.Descriptor.{Reading, Kept, Current, Descriptor, Cursor}
 use Rattle.lo_model.specs.Edit.{Deed, Edit}
 use Rattle.lo_model.specs.Session.{Session}
 use Rattle.lo_model.specs.Transaction.{top_level}
-use Rattle.lo_machine.specs.State.{State, now, edits, session_of}
+use Rattle.toast_plan.specs.Columns.{AreDistinct}
+use Rattle.lo_machine.specs.FlatRows.{AreFlatRows}
+use Rattle.lo_machine.specs.Spelled.{names_of}
+use Rattle.lo_machine.specs.State.{State, Variable, now, edits, session_of, variables_of}
 
 -- an owner's level is one of its session's, and its commit is past
 abbrev pub IsOwner : (now : ℕ) → (ℕ → Session) → Owner → Type 0
@@ -57,7 +63,24 @@ pub record AreWell (now : ℕ) (edits : List (Edit Deed)) (sessions : ℕ → Se
   pub past : All (IsPast now sessions) edits
   pub each : (s : ℕ) → IsSession now edits (sessions s)
 
+-- a table, each of whose columns has a name of its own
+abbrev pub HasNames : Table → Type 0
+HasNames t = AreDistinct (names_of t.columns)
+
+abbrev pub AreNamed : List Table → Type 0
+AreNamed tables = AllByRecursion HasNames tables
+
+-- variables, each with an array that a variable may hold
+abbrev pub HoldsArray : Variable → Type 0
+HoldsArray v = IsHeld v.array
+
+abbrev pub AreHeld : List Variable → Type 0
+AreHeld variables = All HoldsArray variables
+
 -- Blocks are not counted yet.
 pub record IsWell (st : State) : Type 0 where
   pub well : AreWell (now st) (edits st) (session_of st)
   pub uncounted : st.blocks ≡ None
+  pub flat : AreFlatRows st.database.tables (edits st)
+  pub named : AreNamed st.database.tables
+  pub held : (s : ℕ) → AreHeld (variables_of st s)

@@ -1,15 +1,17 @@
-// The requests on data: large objects and array variables. One that writes is done in a level of its own, which is merged
+// The requests on data: large objects, tables and array variables. One that writes is done in a level of its own, which is merged
 // into the session's top level once it was done, and undone where it was not. Outside a block each is a transaction of its own,
 // but one on array variables alone, which needs none.
-ghost use Rattle.std.specs.Prelude.{◌≡◌, ◌<◌, ◌-◌, length, slice_index_or, true, false, [], IfOk, OnErr};
-ghost use Rattle.lo_machine.specs.CallRow.{call_row, reads, sets, writes, is_call, is_on_data};
+ghost use Rattle.std.specs.Prelude.{◌≡◌, ◌<◌, ◌-◌, length, slice_index_or, true, false, [], None, IfOk, OnErr};
+ghost use Rattle.lo_machine.specs.CallRow.{call_row, reads, reads_rows, sets, writes, writes_rows};
+ghost use Rattle.lo_machine.specs.CallRow.{is_call, is_on_data};
+ghost use Rattle.lo_machine.specs.CallRows.{misplaced_by};
 ghost use Rattle.lo_machine.specs.Dispatch.{CanCall, AnswersCall, ReadsCall, AnswersInBlock};
 ghost use Rattle.lo_machine.specs.Engine.{names_in, HasRows, IsEngine, Does, Undone, HasRoom};
 ghost use Rattle.lo_machine.specs.Served.{IsServed};
 ghost use Rattle.lo_machine.specs.Step.{tried};
 
 use crate::engine::Engine;
-use lo_base::{Denied, Name, NoMemory, Reply, Request, SessionNo};
+use lo_base::{Cause, Denied, Name, NoMemory, Reply, Request, SessionNo};
 
 /// The name of the level in which a request writes. It is gone before the next request.
 const OWN_LEVEL: &[u8] = b"request";
@@ -27,9 +29,13 @@ impl Engine {
         ensures ok { IfOk result (Does self.old self.new s (λ st. tried st s request.now)) }
         ensures err { OnErr result (Undone self.old self.new) }
     {
+        let in_block = self.is_open(s);
+        if let Some(cause) = misplaced_by(request, in_block) {
+            return Ok(self.refuse(s, cause));
+        }
         if is_setting(request) {
             self.set(s, request)
-        } else if self.is_open(s) {
+        } else if in_block {
             self.call_in_block(s, request)
         } else {
             self.call_alone(s, request)
@@ -62,6 +68,7 @@ impl Engine {
         requires room { HasRoom self.old }
         requires served { IsServed request.now }
         requires call { is_call request.now ≡ true }
+        requires placed { misplaced_by request.now false ≡ None }
         requires none { names_in self.old s ≡ [] }
         ensures sound { IsEngine self.new }
         ensures ok { IfOk result (Does self.old self.new s (λ st. tried st s request.now)) }
@@ -96,6 +103,7 @@ impl Engine {
         requires room { HasRoom self.old }
         requires served { IsServed request.now }
         requires call { is_call request.now ≡ true }
+        requires placed { misplaced_by request.now true ≡ None }
         requires unfailed { slice_index_or self.old.failed.items (s - 1) false ≡ false }
         requires open { 0 < length (names_in self.old s) }
         ensures sound { IsEngine self.new }
@@ -116,6 +124,7 @@ impl Engine {
         requires room { HasRoom self.old }
         requires served { IsServed request.now }
         requires call { is_call request.now ≡ true }
+        requires placed { misplaced_by request.now true ≡ None }
         requires unfailed { slice_index_or self.old.failed.items (s - 1) false ≡ false }
         requires open { 0 < length (names_in self.old s) }
         ensures { AnswersInBlock s request.now self.old self.new result }
@@ -136,6 +145,7 @@ impl Engine {
         requires room { HasRoom self.old }
         requires served { IsServed request.now }
         requires writes { writes request.now ≡ true }
+        requires placed { misplaced_by request.now true ≡ None }
         requires unfailed { slice_index_or self.old.failed.items (s - 1) false ≡ false }
         requires open { 0 < length (names_in self.old s) }
         ensures { AnswersInBlock s request.now self.old self.new result }
@@ -176,7 +186,7 @@ impl Engine {
         }
     }
 
-    /// A request that may make edits.
+    /// A request that may make edits, tables or cursors.
     fn change(&mut self, s: SessionNo, request: &Request) -> Result<Reply, Denied>
         requires can { CanCall s self.old }
         requires served { IsServed request.now }
@@ -192,6 +202,24 @@ impl Engine {
             Request::LoUnlink(oid) => self.unlink(s, *oid),
             Request::LoPut(oid, at, bytes) => self.put(s, *oid, *at, bytes.items()),
             Request::LoFromBytea(oid, bytes) => self.from_bytea(s, *oid, bytes.items()),
+            _ => self.change_rows(s, request),
+        }
+    }
+
+    /// One on tables, rows or cursors.
+    fn change_rows(&mut self, s: SessionNo, request: &Request) -> Result<Reply, Denied>
+        requires can { CanCall s self.old }
+        requires served { IsServed request.now }
+        requires writes { writes_rows request.now ≡ true }
+        ensures { AnswersCall s (call_row request.now) self.old self.new result }
+    {
+        match request {
+            Request::CreateTable(name, columns) => self.create_table(s, name, columns),
+            Request::Insert(table, values) => self.insert(s, table, values.items()),
+            Request::Update(table, id, changes) => self.update(s, table, *id, changes.items()),
+            Request::Delete(table, id) => self.delete(s, table, *id),
+            Request::Declare(cursor, table, id) => self.declare(s, cursor, table, *id),
+            Request::Rewrite(table, storages) => self.rewrite(s, table, storages.items()),
             _ => unreachable!(),
         }
     }
@@ -213,6 +241,27 @@ impl Engine {
             Request::LoTell(fd) => self.tell(s, *fd, false),
             Request::LoTell64(fd) => self.tell(s, *fd, true),
             Request::LoGet(oid, from, length) => self.get(s, *oid, *from, *length),
+            _ => self.look_at_rows(s, request),
+        }
+    }
+
+    /// One on tables, rows and cursors.
+    fn look_at_rows(&mut self, s: SessionNo, request: &Request) -> Result<Reply, Denied>
+        requires can { CanCall s self.old }
+        requires reads { reads_rows request.now ≡ true }
+        ensures { ReadsCall s (call_row request.now) self.old self.new result }
+    {
+        match request {
+            Request::Get(table, id) => self.get_row(s, table, *id),
+            Request::Ids(table) => self.ids(s, table),
+            Request::Slice(table, id, column, from, length) => {
+                self.slice(s, table, *id, column, *from, *length)
+            }
+            Request::Fetch(cursor, column, from, length) => {
+                self.fetch(s, cursor, column, *from, *length)
+            }
+            Request::Close(cursor) => self.close_cursor(s, cursor),
+            Request::Load(name, table, id, column) => self.load(s, name, table, *id, column),
             _ => unreachable!(),
         }
     }
@@ -234,7 +283,18 @@ impl Engine {
     }
 }
 
-/// Whether a request may make edits.
+/// Why a request may not stand where it does, if it may not.
+fn misplaced_by(request: &Request, in_block: bool) -> Option<Cause>
+    ensures { result ≡ misplaced_by request.now in_block }
+{
+    match request {
+        Request::CreateTable(_, _) | Request::Rewrite(_, _) if in_block => Some(Cause::InBlock),
+        Request::Declare(_, _, _) if !in_block => Some(Cause::NoBlock),
+        _ => None,
+    }
+}
+
+/// Whether a request may make edits, tables or cursors.
 fn is_writing(request: &Request) -> bool
     ensures { result ≡ writes request.now }
 {
@@ -248,6 +308,12 @@ fn is_writing(request: &Request) -> bool
             | Request::LoUnlink(_)
             | Request::LoPut(_, _, _)
             | Request::LoFromBytea(_, _)
+            | Request::CreateTable(_, _)
+            | Request::Insert(_, _)
+            | Request::Update(_, _, _)
+            | Request::Delete(_, _)
+            | Request::Declare(_, _, _)
+            | Request::Rewrite(_, _)
     )
 }
 

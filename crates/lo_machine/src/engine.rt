@@ -1,12 +1,13 @@
 // The engine: transactions, large objects, tables, and for each session its descriptors, its array variables and whether its
 // block is failed; the cursors of all sessions stand with the tables. A request
 // is done at the present clock, which moves on once it was done, so that a request that finds no memory leaves the clock too.
-ghost use Rattle.std.specs.Prelude.{◌≡◌, ◌<◌, ◌+◌, ◌^◌, IfOk, OnErr, IsTrue, replicate, []};
+ghost use Rattle.std.specs.Prelude.{◌≡◌, ◌<◌, ◌+◌, ◌^◌, IfOk, IfSome, OnErr, IsTrue, FitsSigned, replicate, []};
+ghost use Rattle.std.specs.Int.{w32};
 ghost use Rattle.lo_calls.specs.declared.session.LoSession.{LoSession};
 ghost use Rattle.lo_machine.specs.Engine.{clock_of, HasRows, IsEngine, StandsFor, Serves, Does, Undone, HasRoom};
 ghost use Rattle.lo_machine.specs.NewEngine.{AreNew, AreNone};
 ghost use Rattle.lo_machine.specs.Run.{start};
-ghost use Rattle.lo_machine.specs.Served.{IsServed};
+ghost use Rattle.lo_machine.specs.Served.{IsRanged, IsServed};
 ghost use Rattle.lo_machine.specs.Step.{outcome};
 ghost use Rattle.lo_machine.specs.Transactions.{may_recover};
 
@@ -79,6 +80,7 @@ impl Engine {
         ensures rows { HasRows self.new }
         ensures serves { Serves self.old self.new s request.now result }
     {
+        has_ranges(request);
         if !self.has_room() {
             return Err(NoMemory);
         }
@@ -152,6 +154,21 @@ fn new_variables(alloc: Global) -> Result<Vec<Variables>, NoMemory>
     }
     Ok(lists)
 }
+
+/// The numbers that a request sets in an array have the range of their type.
+fn has_ranges(request: &Request)
+    ensures { IsRanged request.now }
+{
+    if let Request::Set(_, sub, value) = request {
+        are_int4(*sub, *value);
+    }
+}
+
+/// Numbers of this type are from -2147483648 to 2147483647.
+fn are_int4(_sub: i32, _value: Option<i32>)
+    ensures sub { FitsSigned w32 _sub }
+    ensures value { IfSome _value (FitsSigned w32) }
+{}
 
 /// Whether a request may end a block's failure.
 fn may_recover(request: &Request) -> bool

@@ -4,11 +4,14 @@
 
 mod arrays;
 mod calls;
+mod cells;
 mod dispatch;
 mod engine;
 mod law;
 mod levels;
+mod literals;
 mod programs;
+mod rows;
 mod running;
 #[cfg(test)]
 mod tests;

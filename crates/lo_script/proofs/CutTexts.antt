@@ -1,5 +1,5 @@
 -- Lines and tokens: parts of a cut text.
-use Rattle.std.proofs.Common.{◌≡◌, ℕ, ◌+◌, ◌<◌, ◌≤◌, ◌==◌, Bool, Some, None, List, [], ◌∷◌, length, take, drop, get_or, not, true, false, ◌-◌, length-drop, refl, sym, ◌∙◌, arith}
+use Rattle.std.proofs.Common.{◌≡◌, ℕ, ◌+◌, ◌<◌, ◌≤◌, ◌==◌, Bool, Some, None, List, [], ◌∷◌, length, take, drop, get_or, not, true, false, ◌-◌, length-drop, zero, suc, refl, sym, ◌∙◌, arith}
 use Rattle.std.specs.Prelude.{Option, IsTrue}
 use Rattle.std.specs.Option.{is_some, option_map_or}
 use Rattle.std.specs.Borrow.{Bor}
@@ -11,7 +11,7 @@ use Rattle.std.proofs.lemmas.List.Sums.{position_or_len_is, fails_before_first}
 use Rattle.std.proofs.lemmas.List.Elements.{All-from_get_or}
 use Rattle.std.proofs.lemmas.List.{take_all}
 use Rattle.std.proofs.lemmas.Bool.Decides.{nat_tests}
-use Rattle.lo_script.specs.Token.{column_after, length_left, pieces_of, pieces_left, rest_of}
+use Rattle.lo_script.specs.Token.{cut_at, column_after, length_left, pieces_of, pieces_left, rest_of}
 
 -- a cut gives one part or more
 pub slice_split-some : {X : Type 0} (p : X → Bool) (xs : List X) → 0 < length (slice_split p xs)
@@ -42,6 +42,33 @@ none_before_end p xs h d i within = fails_before_first p xs i d (grind (arith, n
 pub slice_split-at_none : {X : Type 0} (p : X → Bool) (xs : List X) → position p xs ≡ None → slice_split p xs ≡ xs ∷ []
 slice_split-at_none p [] h = refl
 slice_split-at_none p (x ∷ xs) h = slice_split_none p (x ∷ xs) (All-from_get_or (λ y. p y ≡ false) (x ∷ xs) x (none_before_end p (x ∷ xs) h x))
+
+-- the cut at the first such byte, by its index
+cut_at-index : (at : ℕ) (text : List ℕ) (i : ℕ) → i < length text → (get_or text i 0 == at) ≡ true → ((k : ℕ) → k < i → (get_or text k 0 == at) ≡ false) → cut_at at text ≡ Some (take i text, drop (i + 1) text)
+cut_at-index at [] i within here before = absurd (omega (arith, within))
+cut_at-index at (b ∷ text) zero within here before = rw here refl
+cut_at-index at (b ∷ text) (suc i) within here before =
+    let other : (b == at) ≡ false = before 0 (omega arith) in
+    let more : cut_at at text ≡ Some (take i text, drop (i + 1) text) = cut_at-index at text i (omega (arith, within)) here (λ k low. before (suc k) (omega (arith, low))) in
+    let behind : suc i + 1 ≡ suc (i + 1) = omega arith in
+    rw (other, more, behind) refl
+
+cut_at-absent : (at : ℕ) (text : List ℕ) → ((i : ℕ) → i < length text → (get_or text i 0 == at) ≡ false) → cut_at at text ≡ None
+cut_at-absent at [] other = refl
+cut_at-absent at (b ∷ text) other =
+    let here : (b == at) ≡ false = other 0 (omega arith) in
+    let more : cut_at at text ≡ None = cut_at-absent at text (λ i within. other (suc i) (omega (arith, within))) in
+    rw (here, more) refl
+
+pub cut_at-sliced : (at : ℕ) (text : List ℕ) (i : ℕ) → position (λ b. b == at) text ≡ Some i → cut_at at text ≡ Some (take i text, take (length text - (i + 1)) (drop (i + 1) text))
+cut_at-sliced at text i h =
+    let found = position-Some (λ b. b == at) text i 0 h in
+    let len = length-drop (i + 1) text in
+    let whole : take (length text - (i + 1)) (drop (i + 1) text) ≡ drop (i + 1) text = take_all (length text - (i + 1)) (drop (i + 1) text) (omega (arith, len)) in
+    rw whole (cut_at-index at text i found.0 found.1 found.2)
+
+pub cut_at-none : (at : ℕ) (text : List ℕ) → position (λ b. b == at) text ≡ None → cut_at at text ≡ None
+cut_at-none at text h = cut_at-absent at text (none_before_end (λ b. b == at) text h 0)
 
 -- no cut gives no part
 pub slice_split-not_nil : {X : Type 0} (p : X → Bool) (xs : List X) → slice_split p xs ≡ [] → ⊥

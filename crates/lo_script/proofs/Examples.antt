@@ -89,7 +89,7 @@ no_word = refl
 unknown_word : entry_of (codes "A: lo_greet 5") ≡ BadAt 4
 unknown_word = refl
 
-unknown_other_word : entry_of (codes "A: create 5") ≡ BadAt 4
+unknown_other_word : entry_of (codes "A: create_table 5") ≡ BadAt 4
 unknown_other_word = refl
 
 rolled_back : entry_of (codes "A: rollback") ≡ Read (1, Rollback)

@@ -1,5 +1,5 @@
 mod Examples
-mod ArrayExamples
+mod TableExamples
 pub mod ArrayForms
 pub mod CutTexts
 pub mod DecimalsAndBytes
@@ -10,7 +10,9 @@ pub mod MarksAndNames
 pub mod OneLineReplies
 pub mod PrintedFronts
 pub mod PrintedValues
+pub mod ReadLists
 pub mod Readers
 pub mod ScriptOrder
 pub mod SpelledRequests
+pub mod TableForms
 pub mod ValueTokens

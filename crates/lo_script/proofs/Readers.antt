@@ -1,7 +1,7 @@
 -- What it says of the tokens that a reader read a value from them.
-use Rattle.std.proofs.Common.{◌≡◌, ℕ, List, [], ◌∷◌, Some, None, refl, ap}
+use Rattle.std.proofs.Common.{◌≡◌, ℕ, List, [], ◌∷◌, ◌++◌, Some, None, refl, ap}
 use Rattle.std.specs.Prelude.{Option}
-use Rattle.lo_script.specs.Reader.{Reader, first_token, no_token, one_token, two_tokens, three_tokens, none_or}
+use Rattle.lo_script.specs.Reader.{Reader, first_token, no_token, one_token, two_tokens, three_tokens, four_tokens, none_or, more_tokens}
 use Rattle.lo_script.specs.Reading.{Reading, Read, BadAt, read_at, read_and, value_of}
 use Rattle.lo_script.specs.Token.{TokenList, column_after}
 use Rattle.lo_script.proofs.DecimalsAndBytes.{some_injective}
@@ -17,7 +17,7 @@ pub read_and-some : {A B : Type 0} (f : A → Reading B) (o : Reading A) (b : B)
 read_and-some f (BadAt column) b h = cc h
 read_and-some f (Read a) b h = (a, refl, h)
 
-read_at-some : {A : Type 0} (column : ℕ) (o : Option A) (a : A) → read_at column o ≡ Read a → o ≡ Some a
+pub read_at-some : {A : Type 0} (column : ℕ) (o : Option A) (a : A) → read_at column o ≡ Read a → o ≡ Some a
 read_at-some column None a h = cc h
 read_at-some column (Some b) a h = ap Some (read_injective b a h)
 
@@ -72,3 +72,24 @@ pub three_tokens-finds : {A B C R : Type 0} (Has : TokenList → R → Type 0) (
     → ((t u v : List ℕ) (a : A) (b : B) (c : C) → first t ≡ Some a → second u ≡ Some b → third v ≡ Some c → Has (t ∷ u ∷ v ∷ []) (make a b c)) → Finds (three_tokens first second third make) Has
 three_tokens-finds Has first second third make h =
     first_token-finds Has first (λ a. two_tokens second third (make a)) (λ t a is. two_tokens-finds (λ more. Has (t ∷ more)) second third (make a) (λ u v b c. h t u v a b c is))
+
+pub four_tokens-finds : {A B C D R : Type 0} (Has : TokenList → R → Type 0) (first : List ℕ → Option A) (second : List ℕ → Option B) (third : List ℕ → Option C) (fourth : List ℕ → Option D) (make : A → B → C → D → R)
+    → ((t u v w : List ℕ) (a : A) (b : B) (c : C) (d : D) → first t ≡ Some a → second u ≡ Some b → third v ≡ Some c → fourth w ≡ Some d → Has (t ∷ u ∷ v ∷ w ∷ []) (make a b c d)) → Finds (four_tokens first second third fourth make) Has
+four_tokens-finds Has first second third fourth make h =
+    first_token-finds Has first (λ a. three_tokens second third fourth (make a)) (λ t a is. three_tokens-finds (λ more. Has (t ∷ more)) second third fourth (make a) (λ u v w b c d. h t u v w a b c d is))
+
+-- The first token was read: the others go on with its value.
+pub first_read : {A R : Type 0} (value : List ℕ → Option A) (others : A → Reader R) {before after : TokenList} {column next start : ℕ} {token : List ℕ} {a : A}
+    → before ≡ token ∷ after → start ≡ column → next ≡ column_after start token after → read_at start (value token) ≡ Read a
+    → others a next after ≡ first_token value others column before
+first_read value others {before} {after} {column} {next} {start} {token} {a} is here there read =
+    let spells : value token ≡ Some a = read_at-some start (value token) a read in
+    rw (is, spells, there, here) refl
+
+-- One token more of a list was read.
+pub more_read : {A R : Type 0} (item : List A → List ℕ → Option A) (make : List A → R) (so_far : List A) {longer : List A} {before after : TokenList} {column next start : ℕ} {token : List ℕ} {a : A}
+    → before ≡ token ∷ after → start ≡ column → next ≡ column_after start token after → read_at start (item so_far token) ≡ Read a → longer ≡ so_far ++ a ∷ []
+    → more_tokens item make longer next after ≡ more_tokens item make so_far column before
+more_read item make so_far {longer} {before} {after} {column} {next} {start} {token} {a} is here there read pushed =
+    let spells : item so_far token ≡ Some a = read_at-some start (item so_far token) a read in
+    rw (is, spells, pushed, there, here) refl

@@ -1,28 +1,33 @@
 -- Which tokens spell a request: what the grammar reads, and back.
-use Rattle.std.proofs.Common.{◌≡◌, ℕ, List, [], ◌∷◌, ◌++◌, Some, None, refl, ap, inl, inr}
+use Rattle.std.proofs.Common.{◌≡◌, ℕ, List, [], ◌∷◌, ◌++◌, map, Some, None, refl, ap, inl, inr}
 use Rattle.std.specs.Prelude.{bytes_eq, codes}
+use Rattle.std.specs.Fmt.{signed_decimal}
 use Rattle.std.specs.List.{AllByRecursion}
 use Rattle.std.proofs.lemmas.Bool.{false≢true}
 use Rattle.std.proofs.lemmas.Slice.Eq.{bytes_eq-Decides}
 use Rattle.hex.specs.Hex.{IsBytes}
+use Rattle.lo_base.specs.Name.{IsName}
+use Rattle.lo_base.specs.declared.column.ColType.TheVariants.{Bytea}
+use Rattle.lo_base.specs.declared.column.Column.{Column}
 use Rattle.lo_base.specs.declared.request.Request.{Request}
-use Rattle.lo_base.specs.declared.request.Request.TheVariants.{Begin, Commit, Rollback, Savepoint, Release, RollbackTo, LoCreat, LoCreate, LoOpen, LoClose, LoRead, LoWrite, LoLseek, LoLseek64, LoTell, LoTell64, LoTruncate, LoTruncate64, LoUnlink, LoGet, LoPut, LoFromBytea, Vacuum, Array, Set, Elem, Show}
+use Rattle.lo_base.specs.declared.request.Request.TheVariants.{Begin, Commit, Rollback, Savepoint, Release, RollbackTo, LoCreat, LoCreate, LoOpen, LoClose, LoRead, LoWrite, LoLseek, LoLseek64, LoTell, LoTell64, LoTruncate, LoTruncate64, LoUnlink, LoGet, LoPut, LoFromBytea, CreateTable, Insert, Update, Delete, Get, Ids, Slice, Declare, Fetch, Close, Rewrite, Vacuum, Array, Load, Set, Elem, Show}
 use Rattle.lo_machine.specs.Served.{IsServed}
 use Rattle.lo_machine.specs.Spelled.{bytes_limit}
 use Rattle.lo_script.specs.Form.{rollback_of, other_forms, large_object_forms, form_in, request_of}
 use Rattle.lo_script.specs.Reader.{Form, no_token, one_token, two_tokens}
-use Rattle.lo_script.specs.Reading.{Read}
+use Rattle.lo_script.specs.Reading.{Read, read_and}
 use Rattle.lo_script.specs.Script.{entry_of, request_by}
-use Rattle.lo_script.specs.SpelledValues.{SpellAll, SpellsBytes}
+use Rattle.lo_script.specs.SpelledValues.{IsLiteralInRange, IsChangeInRange, SpellAll, SpellsBytes, SpellsLiteral, SpellsColumn, SpellsStorage, SpellsChange}
 use Rattle.lo_script.specs.Spelling.{HasRanges, SpellRest, SpellsServed, HasSpelling, printed}
 use Rattle.lo_script.specs.Token.{TokenList, column_after, name_of, keyword_of, begins, session_of, tokens_of}
-use Rattle.lo_script.proofs.ArrayForms.{arrays-exact}
 use Rattle.lo_script.proofs.DecimalsAndBytes.{tested, int4_of-decimal, int8_of-decimal, oid_of-decimal, bytes_of-spelled}
 use Rattle.lo_script.proofs.ExactForms.{IsPrinted, IsExact, plainly, ◌also◌}
 use Rattle.lo_script.proofs.LargeObjectForms.{large_objects-exact}
 use Rattle.lo_script.proofs.MarksAndNames.{name_of-prints, spelled_name, keyword_of-is}
-use Rattle.lo_script.proofs.PrintedValues.{bytes_print, bytes_spelled, one_token_of}
+use Rattle.lo_script.proofs.PrintedValues.{bytes_print, bytes_spelled, column_print, column_spelled, literal_print, literal_spelled, change_print, change_spelled, storage_print, storage_spelled}
+use Rattle.lo_script.proofs.ReadLists.{one_token_of, all_printed}
 use Rattle.lo_script.proofs.Readers.{Finds, read_injective, read_and-some, first_token-some, no_token-finds, none_or-finds, one_token-finds, two_tokens-finds}
+use Rattle.lo_script.proofs.TableForms.{tables-exact, create_of-spelled, insert_of-spelled, update_of-spelled, rewrite_of-spelled}
 use Rattle.lo_script.proofs.ValueTokens.{array_text_of-spelled, element_of-spelled}
 
 begin-exact : Finds (no_token Begin) (IsPrinted (codes "begin"))
@@ -47,7 +52,7 @@ rollback-exact =
     (λ to token u name is named. let n = name_of-prints token name named in ((refl, n.named), tt, plainly refl (rw (keyword_of-is (codes "to") to u is, n.is) refl))))
 
 others-exact : AllByRecursion IsExact other_forms
-others-exact = begin-exact also commit-exact also rollback-exact also savepoint-exact also release-exact also vacuum-exact also arrays-exact
+others-exact = begin-exact also commit-exact also rollback-exact also savepoint-exact also release-exact also vacuum-exact also tables-exact
 
 form_in-some : (fs : List Form) → AllByRecursion IsExact fs → (word : List ℕ) (start column : ℕ) (arguments : TokenList) (r : Request) → form_in fs word start column arguments ≡ Read r → IsPrinted word arguments r
 form_in-some [] exact word start column arguments r h = cc h
@@ -103,13 +108,25 @@ request-spelled column tokens (LoTell fd) h = rw (h.2.is, h.2.spell_rest, int4_o
 request-spelled column tokens (LoTell64 fd) h = rw (h.2.is, h.2.spell_rest, int4_of-decimal fd h.1) refl
 request-spelled column tokens (LoTruncate fd size) h = rw (h.2.is, h.2.spell_rest, int4_of-decimal fd h.1.0, int4_of-decimal size h.1.1) refl
 request-spelled column tokens (LoTruncate64 fd size) h = rw (h.2.is, h.2.spell_rest, int4_of-decimal fd h.1.0, int8_of-decimal size h.1.1) refl
+request-spelled column tokens (CreateTable name columns) h = rw h.2.is (create_of-spelled (column_after column (codes "create") (codes "table" ∷ name ∷ h.2.rest)) name h.2.rest columns h.0.1.0 h.2.spell_rest h.0.1.1)
+request-spelled column tokens (Insert table values) h = rw h.2.is (insert_of-spelled (column_after column (codes "insert") (table ∷ h.2.rest)) table h.2.rest values h.0.1.0 h.2.spell_rest h.0.1.2 h.1 h.0.1.1)
+request-spelled column tokens (Update table id changes) h = rw h.2.is (update_of-spelled (column_after column (codes "update") (table ∷ signed_decimal id ∷ h.2.rest)) table id h.2.rest changes h.0.1.0 h.1.0 h.2.spell_rest h.0.1.1 h.1.1)
+request-spelled column tokens (Rewrite table storages) h = rw h.2.is (rewrite_of-spelled (column_after column (codes "rewrite") (table ∷ h.2.rest)) table h.2.rest storages h.0.1.0 h.2.spell_rest h.0.1.1)
+request-spelled column tokens (Delete table id) h = rw (h.2.is, h.2.spell_rest, spelled_name table h.0.1, int8_of-decimal id h.1) refl
+request-spelled column tokens (Get table id) h = rw (h.2.is, h.2.spell_rest, spelled_name table h.0.1, int8_of-decimal id h.1) refl
+request-spelled column tokens (Ids table) h = rw (h.2.is, h.2.spell_rest, spelled_name table h.0.1) refl
+request-spelled column tokens (Slice table id name from count) h = rw (h.2.is, h.2.spell_rest, spelled_name table h.0.1.0, int8_of-decimal id h.1.0, spelled_name name h.0.1.1, int8_of-decimal from h.1.1, int8_of-decimal count h.1.2) refl
+request-spelled column tokens (Declare cursor table id) h = rw (h.2.is, h.2.spell_rest, spelled_name cursor h.0.1.0, spelled_name table h.0.1.1, int8_of-decimal id h.1) refl
+request-spelled column tokens (Fetch cursor name from count) h = rw (h.2.is, h.2.spell_rest, spelled_name cursor h.0.1.0, spelled_name name h.0.1.1, int8_of-decimal from h.1.0, int8_of-decimal count h.1.1) refl
+request-spelled column tokens (Close cursor) h = rw (h.2.is, h.2.spell_rest, spelled_name cursor h.0.1) refl
 request-spelled column tokens (Array name text) h = rw (h.2.is, h.2.spell_rest, spelled_name name h.0.1.0, array_text_of-spelled text h.0.1.1) refl
+request-spelled column tokens (Load name table id from) h = rw (h.2.is, h.2.spell_rest, spelled_name name h.0.1.0, spelled_name table h.0.1.1, int8_of-decimal id h.1, spelled_name from h.0.1.2) refl
 request-spelled column tokens (Set name sub element) h = rw (h.2.is, h.2.spell_rest, spelled_name name h.0.1, int4_of-decimal sub h.1.0, element_of-spelled element h.1.1) refl
 request-spelled column tokens (Elem name sub) h = rw (h.2.is, h.2.spell_rest, spelled_name name h.0.1, int4_of-decimal sub h.1) refl
 request-spelled column tokens (Show name) h = rw (h.2.is, h.2.spell_rest, spelled_name name h.0.1) refl
 request-spelled column tokens other h = absurd (false≢true h.0.0)
 
--- Each request has a spelling, with bytes in digits of lower case
+-- Each request has a spelling: bytes in digits of lower case, storages written out
 
 spelled_by : (r : Request) (rest : TokenList) → IsServed r → HasRanges r → SpellRest r rest → HasSpelling r
 spelled_by r rest served ranges spell_rest = record {
@@ -124,6 +141,10 @@ pub has_spelling : (r : Request) → IsServed r → HasRanges r → HasSpelling 
 has_spelling (LoPut oid at bytes) served ranges = spelled_by (LoPut oid at bytes) (bytes_print bytes ∷ []) served ranges (bytes_printed bytes ranges.2)
 has_spelling (LoFromBytea oid bytes) served ranges = spelled_by (LoFromBytea oid bytes) (bytes_print bytes ∷ []) served ranges (bytes_printed bytes ranges.1)
 has_spelling (LoWrite fd bytes) served ranges = spelled_by (LoWrite fd bytes) (bytes_print bytes ∷ []) served ranges (bytes_printed bytes ranges.1)
+has_spelling (CreateTable name columns) served ranges = spelled_by (CreateTable name columns) (map column_print columns) served ranges (all_printed SpellsColumn column_print (λ (c : Column). IsName c.name) (λ column named. column_spelled column) columns served.1.1.named)
+has_spelling (Insert table values) served ranges = spelled_by (Insert table values) (map literal_print values) served ranges (all_printed SpellsLiteral literal_print IsLiteralInRange literal_spelled values ranges)
+has_spelling (Update table id changes) served ranges = spelled_by (Update table id changes) (map change_print changes) served ranges (all_printed SpellsChange change_print IsChangeInRange change_spelled changes ranges.1)
+has_spelling (Rewrite table storages) served ranges = spelled_by (Rewrite table storages) (map storage_print storages) served ranges (all_printed SpellsStorage storage_print (λ (c : Column). IsName c.name × (c.kind ≡ Bytea)) (λ column named. storage_spelled column) storages served.1.1.1)
 has_spelling Begin served ranges = spelled_by Begin [] served ranges refl
 has_spelling Commit served ranges = spelled_by Commit [] served ranges refl
 has_spelling Rollback served ranges = spelled_by Rollback [] served ranges refl
@@ -145,7 +166,15 @@ has_spelling (LoTell fd) served ranges = spelled_by (LoTell fd) [] served ranges
 has_spelling (LoTell64 fd) served ranges = spelled_by (LoTell64 fd) [] served ranges refl
 has_spelling (LoTruncate fd size) served ranges = spelled_by (LoTruncate fd size) [] served ranges refl
 has_spelling (LoTruncate64 fd size) served ranges = spelled_by (LoTruncate64 fd size) [] served ranges refl
+has_spelling (Delete table id) served ranges = spelled_by (Delete table id) [] served ranges refl
+has_spelling (Get table id) served ranges = spelled_by (Get table id) [] served ranges refl
+has_spelling (Ids table) served ranges = spelled_by (Ids table) [] served ranges refl
+has_spelling (Slice table id name from count) served ranges = spelled_by (Slice table id name from count) [] served ranges refl
+has_spelling (Declare cursor table id) served ranges = spelled_by (Declare cursor table id) [] served ranges refl
+has_spelling (Fetch cursor name from count) served ranges = spelled_by (Fetch cursor name from count) [] served ranges refl
+has_spelling (Close cursor) served ranges = spelled_by (Close cursor) [] served ranges refl
 has_spelling (Array name text) served ranges = spelled_by (Array name text) [] served ranges refl
+has_spelling (Load name table id from) served ranges = spelled_by (Load name table id from) [] served ranges refl
 has_spelling (Set name sub element) served ranges = spelled_by (Set name sub element) [] served ranges refl
 has_spelling (Elem name sub) served ranges = spelled_by (Elem name sub) [] served ranges refl
 has_spelling (Show name) served ranges = spelled_by (Show name) [] served ranges refl

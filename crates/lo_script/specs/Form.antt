@@ -3,9 +3,9 @@ use Rattle.std.specs.Prelude.{ℕ, pos, List, [], ◌∷◌, Some, None, if◌th
 use Rattle.lo_base.specs.declared.request.Request.{Request}
 use Rattle.lo_base.specs.declared.request.Request.TheVariants.{Begin, Commit, Rollback, Savepoint, Release, RollbackTo, LoCreat, LoCreate, LoOpen, LoClose, LoRead, LoWrite, LoLseek, LoLseek64, LoTell, LoTell64, LoTruncate, LoTruncate64, LoUnlink, LoGet, LoPut, LoFromBytea, Vacuum}
 use Rattle.lo_machine.specs.Spelled.{bytes_limit}
-use Rattle.lo_script.specs.ArrayForm.{array_forms}
 use Rattle.lo_script.specs.Reader.{Reader, Form, form, first_token, no_token, one_token, two_tokens, three_tokens, none_or}
 use Rattle.lo_script.specs.Reading.{BadAt}
+use Rattle.lo_script.specs.TableForm.{table_forms}
 use Rattle.lo_script.specs.Token.{column_after, oid_of, int4_of, int8_of, bytes_of, name_of, keyword_of, begins}
 
 -- rollback, or rollback to NAME
@@ -42,7 +42,7 @@ large_object_forms =
     ∷ form (codes "lo_from_bytea") (two_tokens oid_of (bytes_of bytes_limit) LoFromBytea)
     ∷ descriptor_forms
 
--- the other forms: those of transactions, and then those of array variables
+-- the other forms: those of transactions, and then those of tables and of array variables
 abbrev pub other_forms : List Form
 other_forms =
     form (codes "begin") (no_token Begin)
@@ -51,7 +51,7 @@ other_forms =
     ∷ form (codes "savepoint") (one_token name_of Savepoint)
     ∷ form (codes "release") (one_token name_of Release)
     ∷ form (codes "vacuum") (no_token Vacuum)
-    ∷ array_forms
+    ∷ table_forms
 
 -- the forms among which a word is looked for
 abbrev pub forms_of : (word : List ℕ) → List Form

@@ -7,5 +7,6 @@ pub mod ReplyText
 pub mod Script
 pub mod SpelledValues
 pub mod Spelling
+pub mod TableForm
 pub mod Token
 pub mod ValueToken

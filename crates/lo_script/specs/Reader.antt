@@ -1,5 +1,5 @@
 -- What a form is made of: readers of tokens, one after the other.
-use Rattle.std.specs.Prelude.{ℕ, List, [], ◌∷◌, Option}
+use Rattle.std.specs.Prelude.{ℕ, List, [], ◌∷◌, ◌++◌, Option}
 use Rattle.lo_base.specs.declared.request.Request.{Request}
 use Rattle.lo_script.specs.Reading.{Reading, Read, BadAt, read_at, read_and}
 use Rattle.lo_script.specs.Token.{TokenList, column_after}
@@ -29,10 +29,24 @@ two_tokens first second make = first_token first (λ a. one_token second (make a
 abbrev pub three_tokens : {A B C R : Type 0} → (first : List ℕ → Option A) → (second : List ℕ → Option B) → (third : List ℕ → Option C) → (A → B → C → R) → Reader R
 three_tokens first second third make = first_token first (λ a. two_tokens second third (make a))
 
+-- four tokens and no more
+abbrev pub four_tokens : {A B C D R : Type 0} → (first : List ℕ → Option A) → (second : List ℕ → Option B) → (third : List ℕ → Option C) → (fourth : List ℕ → Option D) → (A → B → C → D → R) → Reader R
+four_tokens first second third fourth make = first_token first (λ a. three_tokens second third fourth (make a))
+
 -- that value where no token is left, and otherwise what the tokens spell
 abbrev pub none_or : {R : Type 0} → R → (others : Reader R) → Reader R
 none_or r others column [] = Read r
 none_or r others column (token ∷ tokens) = others column (token ∷ tokens)
+
+-- Items, one for each token that is left, after those of the tokens before. What a token spells may depend on the items so far.
+abbrev pub more_tokens : {A R : Type 0} → (item : List A → List ℕ → Option A) → (List A → R) → (so_far : List A) → Reader R
+more_tokens item make so_far column [] = Read (make so_far)
+more_tokens item make so_far column (token ∷ tokens) =
+    read_and (λ a. more_tokens item make (so_far ++ a ∷ []) (column_after column token tokens) tokens) (read_at column (item so_far token))
+
+-- one token or more, each of which spells an item
+abbrev pub list_of_tokens : {A R : Type 0} → (first : List ℕ → Option A) → (item : List A → List ℕ → Option A) → (List A → R) → Reader R
+list_of_tokens first item make = first_token first (λ a. more_tokens item make (a ∷ []))
 
 -- a form: its word, and the request that the tokens after it spell
 pub record Form : Type 0 where

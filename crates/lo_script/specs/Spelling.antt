@@ -1,13 +1,14 @@
 -- What a line spells, said by printing: the tokens that can be written in one way alone, and those behind them.
 use Rattle.std.specs.Prelude.{◌≡◌, ℕ, [], ◌∷◌, ◌++◌, Some, None, codes}
 use Rattle.std.specs.Fmt.{decimal, signed_decimal}
+use Rattle.std.specs.List.{AllByRecursion}
 use Rattle.hex.specs.Hex.{IsBytes}
 use Rattle.lo_base.specs.declared.request.Request.{Request}
-use Rattle.lo_base.specs.declared.request.Request.TheVariants.{Begin, Commit, Rollback, Savepoint, Release, RollbackTo, LoCreat, LoCreate, LoOpen, LoClose, LoRead, LoWrite, LoLseek, LoLseek64, LoTell, LoTell64, LoTruncate, LoTruncate64, LoUnlink, LoGet, LoPut, LoFromBytea, Vacuum, Array, Set, Elem, Show}
+use Rattle.lo_base.specs.declared.request.Request.TheVariants.{Begin, Commit, Rollback, Savepoint, Release, RollbackTo, LoCreat, LoCreate, LoOpen, LoClose, LoRead, LoWrite, LoLseek, LoLseek64, LoTell, LoTell64, LoTruncate, LoTruncate64, LoUnlink, LoGet, LoPut, LoFromBytea, CreateTable, Insert, Update, Delete, Get, Ids, Slice, Declare, Fetch, Close, Rewrite, Vacuum, Array, Load, Set, Elem, Show}
 use Rattle.lo_machine.specs.Served.{IsServed}
 use Rattle.lo_script.specs.Form.{request_of}
 use Rattle.lo_script.specs.Reading.{Read}
-use Rattle.lo_script.specs.SpelledValues.{IsOid, IsInt4, IsInt8, IsElement, element_text, SpellAll, SpellsBytes}
+use Rattle.lo_script.specs.SpelledValues.{IsOid, IsInt4, IsInt8, IsElement, IsLiteralInRange, IsChangeInRange, element_text, SpellAll, SpellsBytes, SpellsLiteral, SpellsColumn, SpellsStorage, SpellsChange}
 use Rattle.lo_script.specs.Token.{TokenList}
 
 -- the numbers and the bytes of a request are in the ranges of their types
@@ -29,6 +30,14 @@ HasRanges (LoTell fd) = IsInt4 fd
 HasRanges (LoTell64 fd) = IsInt4 fd
 HasRanges (LoTruncate fd size) = IsInt4 fd × IsInt4 size
 HasRanges (LoTruncate64 fd size) = IsInt4 fd × IsInt8 size
+HasRanges (Insert table values) = AllByRecursion IsLiteralInRange values
+HasRanges (Update table id changes) = IsInt8 id × AllByRecursion IsChangeInRange changes
+HasRanges (Delete table id) = IsInt8 id
+HasRanges (Get table id) = IsInt8 id
+HasRanges (Slice table id column from count) = IsInt8 id × IsInt8 from × IsInt8 count
+HasRanges (Declare cursor table id) = IsInt8 id
+HasRanges (Fetch cursor column from count) = IsInt8 from × IsInt8 count
+HasRanges (Load name table id column) = IsInt8 id
 HasRanges (Set name sub element) = IsInt4 sub × IsElement element
 HasRanges (Elem name sub) = IsInt4 sub
 HasRanges _ = Unit {0}
@@ -58,18 +67,34 @@ printed (LoTell fd) = codes "lo_tell" ∷ signed_decimal fd ∷ []
 printed (LoTell64 fd) = codes "lo_tell64" ∷ signed_decimal fd ∷ []
 printed (LoTruncate fd size) = codes "lo_truncate" ∷ signed_decimal fd ∷ signed_decimal size ∷ []
 printed (LoTruncate64 fd size) = codes "lo_truncate64" ∷ signed_decimal fd ∷ signed_decimal size ∷ []
+printed (CreateTable name columns) = codes "create" ∷ codes "table" ∷ name ∷ []
+printed (Insert table values) = codes "insert" ∷ table ∷ []
+printed (Update table id changes) = codes "update" ∷ table ∷ signed_decimal id ∷ []
+printed (Delete table id) = codes "delete" ∷ table ∷ signed_decimal id ∷ []
+printed (Get table id) = codes "get" ∷ table ∷ signed_decimal id ∷ []
+printed (Ids table) = codes "ids" ∷ table ∷ []
+printed (Slice table id column from count) = codes "slice" ∷ table ∷ signed_decimal id ∷ column ∷ signed_decimal from ∷ signed_decimal count ∷ []
+printed (Declare cursor table id) = codes "declare" ∷ cursor ∷ table ∷ signed_decimal id ∷ []
+printed (Fetch cursor column from count) = codes "fetch" ∷ cursor ∷ column ∷ signed_decimal from ∷ signed_decimal count ∷ []
+printed (Close cursor) = codes "close" ∷ cursor ∷ []
+printed (Rewrite table storages) = codes "rewrite" ∷ table ∷ []
 printed Vacuum = codes "vacuum" ∷ []
 printed (Array name text) = codes "array" ∷ name ∷ text ∷ []
+printed (Load name table id column) = codes "load" ∷ name ∷ table ∷ signed_decimal id ∷ column ∷ []
 printed (Set name sub element) = codes "set" ∷ name ∷ signed_decimal sub ∷ element_text element ∷ []
 printed (Elem name sub) = codes "elem" ∷ name ∷ signed_decimal sub ∷ []
 printed (Show name) = codes "show" ∷ name ∷ []
 printed _ = []
 
--- the tokens behind those: bytes, which may be spelled in more than one way
+-- the tokens behind those: bytes, and lists of values, of columns and of changes, each of which may be spelled in more than one way
 abbrev pub SpellRest : Request → TokenList → Type 0
 SpellRest (LoWrite fd bytes) rest = SpellAll SpellsBytes rest (bytes ∷ [])
 SpellRest (LoPut oid at bytes) rest = SpellAll SpellsBytes rest (bytes ∷ [])
 SpellRest (LoFromBytea oid bytes) rest = SpellAll SpellsBytes rest (bytes ∷ [])
+SpellRest (CreateTable name columns) rest = SpellAll SpellsColumn rest columns
+SpellRest (Insert table values) rest = SpellAll SpellsLiteral rest values
+SpellRest (Update table id changes) rest = SpellAll SpellsChange rest changes
+SpellRest (Rewrite table storages) rest = SpellAll SpellsStorage rest storages
 SpellRest _ rest = rest ≡ []
 
 -- the tokens spell the request

@@ -1,6 +1,6 @@
 -- The tokens of a line and the values that they spell.
 use Rattle.std.specs.Borrow.{Bor}
-use Rattle.std.specs.Prelude.{ℕ, ℤ, pos, negsuc, ◌+◌, ◌-◌, ◌^◌, ◌==◌, ◌&&◌, Bool, false, nat_le, nat_lt, List, [], ◌∷◌, length, take, drop, Option, Some, None, option_and_then, if◌then◌else◌, codes, bytes_eq}
+use Rattle.std.specs.Prelude.{ℕ, ℤ, pos, negsuc, ◌+◌, ◌-◌, ◌^◌, ◌==◌, ◌&&◌, Bool, false, nat_le, nat_lt, List, [], ◌∷◌, length, take, drop, Option, Some, None, option_map, option_and_then, if◌then◌else◌, codes, bytes_eq}
 use Rattle.std.specs.Fmt.{signed_decimal}
 use Rattle.std.specs.Int.Signed.{mag}
 use Rattle.std.specs.List.{slice_split, list_all, find, range_with_len}
@@ -21,6 +21,15 @@ pieces_left at left = option_map_or (λ (r : Bor (List ℕ)). pieces_of at r.now
 -- the byte that a text was cut at, and the bytes after it
 abbrev pub length_left : Option (Bor (List ℕ)) → ℕ
 length_left left = option_map_or (λ (r : Bor (List ℕ)). 1 + length r.now) left 0
+
+-- what stands before the first such byte, and what stands after it
+abbrev pub cut_at : (at : ℕ) → (token : List ℕ) → Option (List ℕ × List ℕ)
+cut_at at [] = None
+cut_at at (b ∷ token) = if b == at then Some ([], token) else option_map (λ cut. (b ∷ cut.0, cut.1)) (cut_at at token)
+
+-- the same, of a cut that was made
+abbrev pub cut_in : (front : List ℕ) → (left : Option (Bor (List ℕ))) → Option (List ℕ × List ℕ)
+cut_in front left = option_map (λ (r : Bor (List ℕ)). (front, r.now)) left
 
 abbrev pub TokenList : Type 0
 TokenList = List (List ℕ)

@@ -1,10 +1,10 @@
 // The forms of requests on array variables: the reader of each takes its arguments token by token.
-ghost use Rattle.lo_base.specs.declared.request.Request.TheVariants.{Array, Set, Elem, Show};
+ghost use Rattle.lo_base.specs.declared.request.Request.TheVariants.{Array, Load, Set, Elem, Show};
 ghost use Rattle.lo_script.specs.Answer.{Reads};
 ghost use Rattle.lo_script.specs.ArrayForm.{array_forms};
 ghost use Rattle.lo_script.specs.Form.{form_in};
-ghost use Rattle.lo_script.specs.Reader.{one_token, two_tokens, three_tokens};
-ghost use Rattle.lo_script.specs.Token.{int4_of, name_of};
+ghost use Rattle.lo_script.specs.Reader.{one_token, two_tokens, three_tokens, four_tokens};
+ghost use Rattle.lo_script.specs.Token.{int4_of, int8_of, name_of};
 ghost use Rattle.lo_script.specs.ValueToken.{array_text_of, element_of};
 
 use crate::error::LineError;
@@ -24,6 +24,8 @@ pub fn read_array_form(
 {
     if word.is(b"array") {
         read_array(alloc, tokens)
+    } else if word.is(b"load") {
+        read_load(alloc, tokens)
     } else if word.is(b"set") {
         read_set(alloc, tokens)
     } else if word.is(b"elem") {
@@ -43,6 +45,18 @@ fn read_array(alloc: Global, tokens: &mut Tokens) -> Result<Request, LineError>
     let name = tokens.next()?.name(alloc)?;
     let text = tokens.next()?.array_text(alloc)?;
     complete(tokens, Request::Array(name, text))
+}
+
+/// `load NAME NAME ID NAME`, from the variable on.
+fn read_load(alloc: Global, tokens: &mut Tokens) -> Result<Request, LineError>
+    ensures { Reads (four_tokens name_of name_of int8_of name_of Load
+        tokens.old.column tokens.old.tokens) result }
+{
+    let name = tokens.next()?.name(alloc)?;
+    let table = tokens.next()?.name(alloc)?;
+    let id = tokens.next()?.int8()?;
+    let column = tokens.next()?.name(alloc)?;
+    complete(tokens, Request::Load(name, table, id, column))
 }
 
 /// `set NAME SUB NUMBERORNULL`, from the variable on.

@@ -1,15 +1,16 @@
 // The forms of requests: the word is found here, and one reader for each form takes its arguments token by token. Forms on large
-// objects are in large_object_form.rt, those on array variables in array_form.rt. A new form is one arm and one reader, one line of the
-// tables of forms in specs/, and its printed form in specs/Spelling.antt.
+// objects are in large_object_form.rt, those on tables in table_form.rt, those on array variables in array_form.rt. A new form is
+// one arm and one reader, one line of the tables of forms in specs/, and its printed form in specs/Spelling.antt.
 ghost use Rattle.lo_base.specs.declared.request.Request.TheVariants.{Savepoint, Release};
 ghost use Rattle.lo_script.specs.Answer.{Reads};
-ghost use Rattle.lo_script.specs.Form.{form_in, other_forms, request_of, rollback_of};
+ghost use Rattle.lo_script.specs.Form.{form_in, other_forms, request_of};
+ghost use Rattle.lo_script.specs.Form.{rollback_of};
 ghost use Rattle.lo_script.specs.Reader.{no_token, one_token};
 ghost use Rattle.lo_script.specs.Token.{name_of};
 
-use crate::array_form::read_array_form;
 use crate::error::LineError;
 use crate::large_object_form::read_large_object_form;
+use crate::table_form::read_table_form;
 use crate::token::{Token, Tokens};
 use lo_base::Request;
 use std::alloc::Global;
@@ -44,7 +45,7 @@ fn read_other_form(alloc: Global, word: &Token, tokens: &mut Tokens) -> Result<R
     } else if word.is(b"vacuum") {
         complete(tokens, Request::Vacuum)
     } else {
-        read_array_form(alloc, word, tokens)
+        read_table_form(alloc, word, tokens)
     }
 }
 

@@ -18,7 +18,7 @@ use lo_base::Request;
 use std::alloc::Global;
 
 /// The most bytes of a request.
-const BYTES_LIMIT: usize = 16777216;
+pub const BYTES_LIMIT: usize = 16777216;
 
 /// A request on large objects, from the token after its word on.
 pub fn read_large_object_form(

@@ -1,9 +1,9 @@
 // What no clause says: that calls succeed where there is memory, and printed texts once more. The
 // expected texts are typed from the grammar and the table of replies, never from what the program printed.
-mod arrays;
 mod large_objects;
-mod wrong_array_lines;
+mod tables;
 mod wrong_lines;
+mod wrong_table_lines;
 
 use crate::error::LineError;
 use crate::token::Tokens;

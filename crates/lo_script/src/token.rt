@@ -1,6 +1,6 @@
 // The tokens of one line, and the numbers, names and bytes that they spell: a token stands between single spaces. Forms are in
-// form.rt, tokens of arrays in value_token.rt. A new kind of token gets a method of `Token`, with the definition of what it spells in
-// specs/Token.antt or specs/ValueToken.antt.
+// form.rt, tokens of values and of columns in value_token.rt. A new kind of token gets a method of `Token`, with the definition of
+// what it spells in specs/Token.antt or specs/ValueToken.antt.
 ghost use Rattle.std.specs.Prelude.{◌≡◌, ◌≢◌, ◌↔◌, IsTrue, ◌+◌, ◌<◌, ◌==◌, [], ◌∷◌};
 ghost use Rattle.std.specs.Prelude.{length, bytes_eq, IfOk, IfErr, OnOk, IfSome};
 ghost use Rattle.std.specs.List.{position};
@@ -8,7 +8,7 @@ ghost use Rattle.lo_script.specs.Answer.{Reads};
 ghost use Rattle.lo_script.specs.Reading.{read_at};
 ghost use Rattle.lo_script.specs.declared.error.LineError.TheVariants.{Bad};
 ghost use Rattle.lo_script.specs.Token.{tokens_of, rest_of, column_after, pieces_of, pieces_left};
-ghost use Rattle.lo_script.specs.Token.{length_left, keyword_of, session_of, oid_of, int4_of};
+ghost use Rattle.lo_script.specs.Token.{length_left, cut_at, cut_in, keyword_of, session_of, oid_of, int4_of};
 ghost use Rattle.lo_script.specs.Token.{int8_of, name_of, bytes_of, begins};
 
 use crate::error::LineError;
@@ -43,7 +43,7 @@ impl<'a> Model for Tokens<'a> {
 #[derive(Clone, Copy)]
 pub struct Token<'a> {
     pub text: &'a [u8],
-    column: u64,
+    pub column: u64,
 }
 
 impl<'a> Tokens<'a> {
@@ -178,7 +178,7 @@ impl Token<'_> {
         }
     }
 
-    /// The name of a savepoint or of an array variable.
+    /// The name of a savepoint, table, column, cursor or variable.
     #[tactic(auto, using(crate::proofs::MarksAndNames::spelled_name, crate::proofs::MarksAndNames::no_name))]
     pub fn name(&self, alloc: Global) -> Result<Name, LineError>
         ensures { Reads (read_at self.now.column (name_of self.now.text.now)) result }
@@ -233,6 +233,7 @@ fn decimal(token: &[u8]) -> Option<i64>
 /// What stands before the first `at`, and what stands after it, if there is one.
 pub fn cut(text: &[u8], at: u8) -> (&[u8], Option<&[u8]>)
     ensures parts { pieces_of at text.now ≡ result.0.now ∷ pieces_left at result.1 }
+    ensures first { cut_at at text.now ≡ cut_in result.0.now result.1 }
     ensures whole { length result.0.now + length_left result.1 ≡ length text.now }
 {
     match first_index(text, at) {

@@ -7,6 +7,7 @@ mod dialogue;
 mod large;
 mod objects;
 mod refused_memory;
+mod tables;
 mod transactions;
 
 use crate::run::{Status, run};

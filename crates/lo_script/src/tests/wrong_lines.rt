@@ -35,7 +35,7 @@ const MARKS: &[u8] = b"01 begin|
 04 A: lo_export 1|
 04 A: lo_begin|
 04 A: lo_from_bytes 5 \\x41|
-04 A: create 1|
+04 A: created 1|
 04 A: lo_create\t1|
 04 A: # x|
 04 B: BEGIN|
@@ -359,7 +359,7 @@ const ENDS: [(&[u8], u64, u64); 15] = [
     (b"#\xff\n\xff 1", 2, 1),
 ];
 
-fn expect_bad(rt: &impl Abort, alloc: Global, text: &[u8], line: u64, column: u64) {
+pub fn expect_bad(rt: &impl Abort, alloc: Global, text: &[u8], line: u64, column: u64) {
     let start = read_script(alloc, text).err().and_then(|e| bad_line_of(&e));
     assert_eq!(rt; start, Some(BadLine { line, column }));
 }

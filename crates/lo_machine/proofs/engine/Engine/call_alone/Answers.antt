@@ -15,8 +15,8 @@ returns-in-Ok-do_call-clause-ok c =
     let answers = c.in-Ok-do_call.ensures in
     let ends = c.end_committed.ensures.becomes in
     record {
-      reply = λ st stands. alone_reply c.args.s range.0 range.1 e0 e1 e2 c.requires.none c.in-Ok.ensures.ok answers.xacts st stands c.args.request.now c.requires.call c.in-Ok-do_call.reply answers.ok;
-      leaves = λ st stands. alone_leaves c.args.s range.0 range.1 e0 e1 e2 c.requires.none c.in-Ok.ensures.ok answers.xacts st stands c.args.request.now c.requires.call c.in-Ok-do_call.reply answers.ok e3 ends;
+      reply = λ st stands. alone_reply c.args.s range.0 range.1 e0 e1 e2 c.requires.none c.in-Ok.ensures.ok answers.xacts st stands c.args.request.now c.requires.call c.requires.placed c.in-Ok-do_call.reply answers.ok;
+      leaves = λ st stands. alone_leaves c.args.s range.0 range.1 e0 e1 e2 c.requires.none c.in-Ok.ensures.ok answers.xacts st stands c.args.request.now c.requires.call c.requires.placed c.in-Ok-do_call.reply answers.ok e3 ends;
       rows = λ old. ends.rows answers.ok.rows;
       time = ends.time ∙ (clock_kept (xacts_of e1) (xacts_of e2) answers.xacts ∙ c.in-Ok.ensures.ok.time);
     }
@@ -32,8 +32,8 @@ returns-in-Err-By-clause-ok c =
     let ends = c.end_aborted.ensures.becomes in
     let refuses = rw (c.in-Err-By.field-0-is) at answers.err in
     record {
-      reply = λ st stands. alone_refused c.args.s range.0 range.1 e0 e1 e2 c.requires.none c.in-Ok.ensures.ok answers.xacts st stands c.args.request.now c.requires.call c.in-Err-By.refusal refuses;
-      leaves = λ st stands. alone_refused_leaves c.args.s range.0 range.1 e0 e1 e2 c.requires.none c.in-Ok.ensures.ok answers.xacts st stands c.args.request.now c.requires.call c.in-Err-By.refusal refuses e3 ends;
+      reply = λ st stands. alone_refused c.args.s range.0 range.1 e0 e1 e2 c.requires.none c.in-Ok.ensures.ok answers.xacts st stands c.args.request.now c.requires.call c.requires.placed c.in-Err-By.refusal refuses;
+      leaves = λ st stands. alone_refused_leaves c.args.s range.0 range.1 e0 e1 e2 c.requires.none c.in-Ok.ensures.ok answers.xacts st stands c.args.request.now c.requires.call c.requires.placed c.in-Err-By.refusal refuses e3 ends;
       rows = λ old. ends.rows refuses.stays.rows;
       time = ends.time ∙ (clock_kept (xacts_of e1) (xacts_of e2) answers.xacts ∙ c.in-Ok.ensures.ok.time);
     }
