@@ -19,6 +19,7 @@ pub mod CallsKept
 pub mod ArrayAnswers
 pub mod ArrayCalls
 pub mod ArrayNames
+pub mod ArrayReplies
 pub mod ArrayTexts
 mod CursorExamples
 pub mod CursorParts

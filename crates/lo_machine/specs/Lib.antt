@@ -12,6 +12,7 @@ pub mod Moves
 pub mod NewEngine
 pub mod Program
 pub mod Replay
+pub mod Replies
 pub mod Row
 pub mod Run
 pub mod Running

@@ -6,6 +6,7 @@ pub mod DecimalsAndBytes
 pub mod ExactForms
 pub mod FirstBadLines
 pub mod LargeObjectForms
+pub mod MachineReplies
 pub mod MarksAndNames
 pub mod OneLineReplies
 pub mod PrintedFronts
@@ -16,3 +17,4 @@ pub mod ScriptOrder
 pub mod SpelledRequests
 pub mod TableForms
 pub mod ValueTokens
+pub mod WrittenLines

@@ -21,22 +21,33 @@ use Rattle.lo_base.specs.declared.reply.Word.TheVariants.{Ok}
 use Rattle.lo_base.specs.Cause.{code_of, opening_of, ending_of}
 use Rattle.lo_base.specs.Code.{sqlstate_of}
 use Rattle.lo_base.specs.Refusal.{numbered}
-use Rattle.lo_script.specs.ReplyText.{word_text, bytes_text, cell_text, after_space, spaced, counted_text, stopped_text, text_of, error_text, IsOneLine, IsOneLineCell, HasOneLineArrays}
+use Rattle.lo_script.specs.ReplyText.{word_text, bytes_text, cell_text, after_space, spaced, counted_text, stopped_text, text_of, error_text, IsOneLine}
 use Rattle.lo_script.proofs.DecimalsAndBytes.{tested}
+
+-- no array's text in a reply holds a line feed
+
+abbrev pub IsOneLineCell : Cell → Type 0
+IsOneLineCell (cells.Text text) = IsOneLine text
+IsOneLineCell _ = Unit {0}
+
+abbrev pub HasOneLineArrays : Reply → Type 0
+HasOneLineArrays (Row row) = AllByRecursion IsOneLineCell row
+HasOneLineArrays (Text text) = IsOneLine text
+HasOneLineArrays _ = Unit {0}
 
 -- a test that computes
 abbrev is_one_line : List ℕ → Bool
 is_one_line [] = true
 is_one_line (b ∷ bs) = not (b == 10) && is_one_line bs
 
-from_test : (text : List ℕ) → is_one_line text ≡ true → IsOneLine text
+pub from_test : (text : List ℕ) → is_one_line text ≡ true → IsOneLine text
 from_test [] h = All-nil (λ b. b ≢ 10)
 from_test (b ∷ bs) h =
     let other : b ≢ 10 = grind (arith, nat_tests) in
     let more : is_one_line bs ≡ true = grind (arith, nat_tests) in
     All-cons (λ c. c ≢ 10) b bs other (from_test bs more)
 
-both : (a b : List ℕ) → IsOneLine a → IsOneLine b → IsOneLine (a ++ b)
+pub both : (a b : List ℕ) → IsOneLine a → IsOneLine b → IsOneLine (a ++ b)
 both a b h k = All-append (λ c. c ≢ 10) a b h k
 
 -- digits
@@ -57,7 +68,7 @@ decimal-one_line : (n : ℕ) → IsOneLine (decimal n)
 unfolding digits
 decimal-one_line n = digits_onto-one_line 64 n [] (All-nil (λ b. b ≢ 10))
 
-signed_decimal-one_line : (n : ℤ) → IsOneLine (signed_decimal n)
+pub signed_decimal-one_line : (n : ℤ) → IsOneLine (signed_decimal n)
 signed_decimal-one_line (pos n) = decimal-one_line n
 signed_decimal-one_line (negsuc n) = All-cons (λ c. c ≢ 10) 45 (decimal (suc n)) (omega arith) (decimal-one_line (suc n))
 
@@ -127,7 +138,7 @@ cell_text-one_line (cells.Text text) h = h
 cell_text-one_line (cells.Outside length value) h = All-nil (λ b. b ≢ 10)
 
 -- a word before more
-after_word : (word more : List ℕ) → is_one_line word ≡ true → IsOneLine more → IsOneLine (word ++ more)
+pub after_word : (word more : List ℕ) → is_one_line word ≡ true → IsOneLine more → IsOneLine (word ++ more)
 after_word word more h k = both word more (from_test word h) k
 
 row-one_line : (row : List Cell) → AllByRecursion IsOneLineCell row → IsOneLine (spaced cell_text row)

@@ -22,7 +22,7 @@ use Rattle.lo_base.specs.declared.value.Literal.TheVariants.{Null, Number, Bytes
 use Rattle.lo_machine.specs.Spelled.{bytes_limit, IsToken, OpensArray, IsLiteral}
 use Rattle.toast_plan.specs.Columns.{IsPlainIfFixed}
 use Rattle.lo_script.specs.Reading.{Read, BadAt, read_at}
-use Rattle.lo_script.specs.SpelledValues.{IsInt8, IsElement, IsLiteralInRange, SpellsBytes, SpellsLiteral, SpellsNamed, SpellsChange, SpellsStorage, SpellsKind, SpellsColumn, element_text, storage_text}
+use Rattle.lo_script.specs.SpelledValues.{IsInt8, IsElement, IsLiteralInRange, SpellsLiteral, SpellsChange, SpellsStorage, SpellsKind, SpellsColumn, element_text, storage_text}
 use Rattle.lo_script.specs.Token.{begins, bytes_of, int4_of, int8_of, name_of, cut_at}
 use Rattle.lo_script.specs.ValueToken.{ends_token, is_array_text, array_text_of, element_of, literal_of, named_of, word_among, storage_words, kind_words, column_with, column_of, next_column, column_name, is_among, storage_column, storage_column_of, change_with, change_of}
 use Rattle.lo_script.proofs.DecimalsAndBytes.{tested, some_injective, and_then-some, int4_of-prints, int8_of-prints, int4_of-decimal, int8_of-decimal, bytes_of-prints, bytes_of-spelled}
@@ -36,11 +36,11 @@ map-some f (Some a) b h = (a, refl, some_injective (f a) b h)
 
 -- Arrays' texts and elements
 
-and-both : (a b : Bool) → (a && b) ≡ true → (a ≡ true) × (b ≡ true)
+pub and-both : (a b : Bool) → (a && b) ≡ true → (a ≡ true) × (b ≡ true)
 and-both true b h = (refl, h)
 and-both false b h = cc h
 
-not-true : (a : Bool) → not a ≡ true → a ≡ false
+pub not-true : (a : Bool) → not a ≡ true → a ≡ false
 not-true true h = cc h
 not-true false h = refl
 

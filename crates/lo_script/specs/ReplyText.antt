@@ -1,7 +1,6 @@
 -- How replies are printed.
 use Rattle.std.specs.Prelude.{◌≢◌, ℕ, ℤ, All, List, [], ◌∷◌, ◌++◌, codes}
 use Rattle.std.specs.Fmt.{decimal, signed_decimal}
-use Rattle.std.specs.List.{AllByRecursion}
 use Rattle.hex.specs.Hex.{encode_lower}
 use Rattle.lo_base.specs.declared.refusal.Refusal.{Refusal}
 use Rattle.lo_base.specs.declared.reply.Reply.{Reply}
@@ -101,13 +100,3 @@ lines_of (reply ∷ replies) = line_of reply.0 reply.1 ++ lines_of replies
 -- no line feed stands in the text
 abbrev pub IsOneLine : List ℕ → Type 0
 IsOneLine text = All (λ b. b ≢ 10) text
-
-abbrev pub IsOneLineCell : Cell → Type 0
-IsOneLineCell (cells.Text text) = IsOneLine text
-IsOneLineCell _ = Unit {0}
-
--- no array's text in the reply holds a line feed
-abbrev pub HasOneLineArrays : Reply → Type 0
-HasOneLineArrays (Row row) = AllByRecursion IsOneLineCell row
-HasOneLineArrays (Text text) = IsOneLine text
-HasOneLineArrays _ = Unit {0}

@@ -69,3 +69,8 @@ pub record IsFirstBad (text : List ℕ) (number column : ℕ) : Type 0 where
   pub allowed : All IsAllowed before
   pub request : is_request_line line ≡ true
   pub bad : entry_of line ≡ BadAt column
+
+-- some text spells the script of one line, which is that session's request
+pub record HasText (session : ℕ) (request : Request) : Type 0 where
+  pub text : List ℕ
+  pub spelled : script_of text ≡ Some (with_entry (script_with (replicate 16 []) []) (session, request))

@@ -1,5 +1,6 @@
 use Rattle.lo_script.proofs.DecimalsAndBytes.{int8_of-prints, int8_of-decimal}
 use Rattle.lo_script.proofs.SpelledRequests.{request-some, request-spelled, has_spelling}
+use Rattle.lo_script.proofs.WrittenLines.{has_text}
 use Rattle.lo_script.proofs.law.tokens_spell.Goals as goal
 
 pub returns-clause-printed : goal.returns-clause-printed
@@ -16,3 +17,6 @@ returns-clause-exact c column tokens r = (request-some column tokens r, request-
 
 pub returns-clause-printable : goal.returns-clause-printable
 returns-clause-printable c = has_spelling
+
+pub returns-clause-written : goal.returns-clause-written
+returns-clause-written c = has_text

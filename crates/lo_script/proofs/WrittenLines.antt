@@ -1,0 +1,403 @@
+-- The tokens of a request hold no space and no line feed. So, joined by spaces, they make a line that is cut into them again.
+use Rattle.std.proofs.Common.{◌≡◌, ◌≢◌, ℕ, ℤ, pos, negsuc, zero, suc, ◌+◌, ◌/◌, ◌%◌, ◌==◌, ◌&&◌, ◌≤◌, ◌<◌, not, true, false, Bool, List, [], ◌∷◌, ◌++◌, length, refl, sym, ap, ◌∙◌, Some, None, inl, inr, arith}
+use Rattle.std.specs.Prelude.{Option, Ok, ◌||◌, bytes_eq, codes, nat_lt, replicate, All}
+use Rattle.std.specs.Fmt.{decimal, signed_decimal, digits, digits_onto, digit_glyph}
+use Rattle.std.specs.List.{AllByRecursion, find, list_all, list_any, range_with_len, slice_split}
+use Rattle.std.specs.Str.Lines.{lines}
+use Rattle.std.proofs.lemmas.Bool.{false≢true}
+use Rattle.std.proofs.lemmas.Bool.Decides.{nat_tests}
+use Rattle.std.proofs.lemmas.List.Elements.{All-nil, All-cons}
+use Rattle.std.proofs.lemmas.List.Splits.{slice_split_at, slice_split_none}
+use Rattle.std.proofs.lemmas.List.Sums.{list_all-from_AllPass}
+use Rattle.std.proofs.lemmas.Slice.Eq.{bytes_eq-Decides}
+use Rattle.hex.specs.Hex.{decode_of, is_hex_digit}
+use Rattle.hex.proofs.HexLemmas.{decode_of-ok}
+use Rattle.lo_base.specs.Name.{IsName, continues_name}
+use Rattle.lo_base.specs.declared.column.ColType.{ColType}
+use Rattle.lo_base.specs.declared.column.ColType.TheVariants as types
+use Rattle.lo_base.specs.declared.column.Column.{Column}
+use Rattle.lo_base.specs.declared.column.Storage.{Storage}
+use Rattle.lo_base.specs.declared.column.Storage.TheVariants.{Plain}
+use Rattle.lo_base.specs.declared.request.Assign.{Assign}
+use Rattle.lo_base.specs.declared.request.Request.{Request}
+use Rattle.lo_base.specs.declared.request.Request.TheVariants.{Begin, Commit, Rollback, Savepoint, Release, RollbackTo, LoCreat, LoCreate, LoOpen, LoClose, LoRead, LoWrite, LoLseek, LoLseek64, LoTell, LoTell64, LoTruncate, LoTruncate64, LoUnlink, LoGet, LoPut, LoFromBytea, CreateTable, Insert, Update, Delete, Get, Ids, Slice, Declare, Fetch, Close, Rewrite, Vacuum, Array, Load, Set, Elem, Show}
+use Rattle.lo_base.specs.declared.value.Literal.{Literal}
+use Rattle.lo_base.specs.declared.value.Literal.TheVariants.{Null, Number, Bytes, ArrayText, Variable}
+use Rattle.lo_machine.specs.Served.{IsServed}
+use Rattle.lo_machine.specs.Spelled.{IsLiteral}
+use Rattle.lo_script.specs.Form.{request_of}
+use Rattle.lo_script.specs.Reading.{Reading, Read}
+use Rattle.lo_script.specs.Script.{HasText, is_request_line, entry_of, entry_in, script_of, with_entry, script_with}
+use Rattle.lo_script.specs.SpelledValues.{SpellAll, SpellsBytes, SpellsLiteral, SpellsChange, SpellsStorage, SpellsKind, SpellsWithStorage, SpellsColumn, element_text, storage_text}
+use Rattle.lo_script.specs.Spelling.{HasRanges, SpellsServed}
+use Rattle.lo_script.specs.Token.{TokenList, column_after, mark_of, session_of, tokens_of}
+use Rattle.lo_script.specs.ValueToken.{ends_token}
+use Rattle.lo_script.proofs.DecimalsAndBytes.{tested}
+use Rattle.lo_script.proofs.ReadLists.{one_token_of}
+use Rattle.lo_script.proofs.SpelledRequests.{has_spelling, request-some}
+use Rattle.lo_script.proofs.ValueTokens.{and-both, not-true}
+
+abbrev IsWhole : List ℕ → Type 0
+IsWhole token = AllByRecursion (λ b. ends_token b ≡ false) token
+
+abbrev AreWhole : TokenList → Type 0
+AreWhole tokens = AllByRecursion IsWhole tokens
+
+-- a test that computes
+abbrev is_whole : List ℕ → Bool
+is_whole [] = true
+is_whole (b ∷ token) = not (ends_token b) && is_whole token
+
+by_test : (token : List ℕ) → is_whole token ≡ true → IsWhole token
+by_test [] h = tt
+by_test (b ∷ token) h =
+    let tests = and-both (not (ends_token b)) (is_whole token) h in
+    (not-true (ends_token b) tests.0, by_test token tests.1)
+
+both : (a b : List ℕ) → IsWhole a → IsWhole b → IsWhole (a ++ b)
+both [] b h k = k
+both (x ∷ a) b h k = (h.0, both a b h.1 k)
+
+-- bytes that pass a test which spaces and line feeds do not pass
+
+apart : (passes : ℕ → Bool) → passes 32 ≡ false → passes 10 ≡ false → (b : ℕ) → passes b ≡ true → ends_token b ≡ false
+apart passes space feed b h = elim (tested (b == 32)) [
+  | inl same ↦ let is : b ≡ 32 = grind (arith, nat_tests, same) in absurd (false≢true (sym space ∙ (rw is at h)))
+  | inr no_space ↦ elim (tested (b == 10)) [
+    | inl same ↦ let is : b ≡ 10 = grind (arith, nat_tests, same) in absurd (false≢true (sym feed ∙ (rw is at h)))
+    | inr no_feed ↦ rw (no_space, no_feed) refl
+  ]
+]
+
+all_apart : (passes : ℕ → Bool) → passes 32 ≡ false → passes 10 ≡ false → (token : List ℕ) → list_all passes token ≡ true → IsWhole token
+all_apart passes space feed [] h = tt
+all_apart passes space feed (b ∷ token) h =
+    let tests = and-both (passes b) (list_all passes token) h in
+    (apart passes space feed b tests.0, all_apart passes space feed token tests.1)
+
+name-whole : (name : List ℕ) → IsName name → IsWhole name
+name-whole [] named = absurd named
+name-whole (first ∷ others) named =
+    let begins : continues_name first ≡ true = rw named.0 refl in
+    all_apart continues_name refl refl (first ∷ others) (rw (begins, list_all-from_AllPass continues_name others named.1) refl)
+
+digits-whole : (text bytes : List ℕ) → decode_of text ≡ Ok bytes → IsWhole text
+digits-whole text bytes h =
+    all_apart is_hex_digit refl refl text (list_all-from_AllPass is_hex_digit text (decode_of-ok text bytes h).1)
+
+-- numbers
+
+visible : (b : ℕ) → 33 ≤ b → ends_token b ≡ false
+visible b high =
+    let space : (b == 32) ≡ false = grind (arith, nat_tests, high) in
+    let feed : (b == 10) ≡ false = grind (arith, nat_tests, high) in
+    rw (space, feed) refl
+
+glyph-visible : (n : ℕ) → 33 ≤ digit_glyph false n
+glyph-visible n = elim (tested (nat_lt n 10)) [
+  | inl small ↦ rw small (omega arith)
+  | inr large ↦ rw large (omega arith)
+]
+
+digits_onto-whole : (k n : ℕ) (after : List ℕ) → IsWhole after → IsWhole (digits_onto k 10 false n after)
+digits_onto-whole zero n after h = h
+digits_onto-whole (suc k) n after h =
+    let glyph = visible (digit_glyph false (n % 10)) (glyph-visible (n % 10)) in
+    elim (tested (n / 10 == 0)) [
+      | inl last ↦ rw last (glyph, h)
+      | inr more ↦ rw more (digits_onto-whole k (n / 10) (digit_glyph false (n % 10) ∷ after) (glyph, h))
+    ]
+
+decimal-whole : (n : ℕ) → IsWhole (decimal n)
+unfolding digits
+decimal-whole n = digits_onto-whole 64 n [] tt
+
+signed-whole : (n : ℤ) → IsWhole (signed_decimal n)
+signed-whole (pos n) = decimal-whole n
+signed-whole (negsuc n) = (refl, decimal-whole (suc n))
+
+element-whole : (element : Option ℤ) → IsWhole (element_text element)
+element-whole None = by_test (codes "null") refl
+element-whole (Some n) = signed-whole n
+
+-- values
+
+neither : (a b : Bool) → (a || b) ≡ false → (a ≡ false) × (b ≡ false)
+neither true b h = cc h
+neither false b h = (refl, h)
+
+text-whole : (text : List ℕ) → list_any ends_token text ≡ false → IsWhole text
+text-whole [] h = tt
+text-whole (b ∷ text) h =
+    let tests = neither (ends_token b) (list_any ends_token text) h in
+    (tests.0, text-whole text tests.1)
+
+bytes-whole : (token bytes : List ℕ) → SpellsBytes token bytes → IsWhole token
+bytes-whole token bytes h =
+    rw h.is (both (codes "\\x") h.digits (by_test (codes "\\x") refl) (digits-whole h.digits bytes h.stands_for))
+
+literal-whole : (token : List ℕ) (literal : Literal) → SpellsLiteral token literal → IsLiteral literal → IsWhole token
+literal-whole token Null h is = rw h (by_test (codes "null") refl)
+literal-whole token (Number n) h is = rw h (signed-whole n)
+literal-whole token (Bytes bytes) h is = bytes-whole token bytes h
+literal-whole token (ArrayText text) h is = rw h (text-whole text is.0.1)
+literal-whole token (Variable name) h is = rw h (both (codes "@") name (by_test (codes "@") refl) (name-whole name is))
+
+-- a name, a byte, and what stands behind it
+named-whole : (at : ℕ) (name text : List ℕ) → ends_token at ≡ false → IsName name → IsWhole text → IsWhole (name ++ at ∷ text)
+named-whole at name text sign named h = both name (at ∷ text) (name-whole name named) (sign, h)
+
+change-whole : (token : List ℕ) (change : Assign) → SpellsChange token change → IsName change.column × IsLiteral change.value → IsWhole token
+change-whole token change h is =
+    rw h.is (named-whole 61 change.column h.text refl is.0 (literal-whole h.text change.value h.spells is.1))
+
+storage-tested : (storage : Storage) → is_whole (storage_text storage) ≡ true
+storage-tested Plain = refl
+storage-tested other = refl
+
+storage-whole : (storage : Storage) → IsWhole (storage_text storage)
+storage-whole storage = by_test (storage_text storage) (storage-tested storage)
+
+storage_column-whole : (token : List ℕ) (column : Column) → SpellsStorage token column → IsName column.name × (column.kind ≡ types.Bytea) → IsWhole token
+storage_column-whole token column h is =
+    rw h.is (named-whole 58 column.name h.text refl is.0 (rw h.spells (storage-whole column.storage)))
+
+with_storage-whole : (kind text : List ℕ) (storage : Storage) → is_whole kind ≡ true → SpellsWithStorage kind text storage → IsWhole text
+with_storage-whole kind text storage h (inl spelled) =
+    let front = both kind (codes ":") (by_test kind h) (by_test (codes ":") refl) in
+    rw spelled (both (kind ++ codes ":") (storage_text storage) front (storage-whole storage))
+with_storage-whole kind text storage h (inr spelled) = rw spelled.0 (by_test kind h)
+
+kind-whole : (text : List ℕ) (kind : ColType) (storage : Storage) → SpellsKind text kind storage → IsWhole text
+kind-whole text types.Int8 storage h = rw h (by_test (codes "int8") refl)
+kind-whole text types.Oid storage h = rw h (by_test (codes "oid") refl)
+kind-whole text types.Lo storage h = rw h (by_test (codes "lo") refl)
+kind-whole text types.Bytea storage h = with_storage-whole (codes "bytea") text storage refl h
+kind-whole text types.Int4Array storage h = with_storage-whole (codes "int4[]") text storage refl h
+
+column-whole : (token : List ℕ) (column : Column) → SpellsColumn token column → IsName column.name → IsWhole token
+column-whole token column h named =
+    rw h.is (named-whole 58 column.name h.text refl named (kind-whole h.text column.kind column.storage h.spells))
+
+items-whole : {A : Type 0} (Spell : List ℕ → A → Type 0) (Each : A → Type 0) → ((token : List ℕ) (a : A) → Spell token a → Each a → IsWhole token)
+    → (tokens : TokenList) (items : List A) → SpellAll Spell tokens items → AllByRecursion Each items → AreWhole tokens
+items-whole Spell Each one [] [] spelled each = tt
+items-whole Spell Each one [] (a ∷ items) spelled each = absurd spelled
+items-whole Spell Each one (token ∷ tokens) [] spelled each = absurd spelled
+items-whole Spell Each one (token ∷ tokens) (a ∷ items) spelled each =
+    (one token a spelled.0 each.0, items-whole Spell Each one tokens items spelled.1 each.1)
+
+last-whole : (rest : TokenList) (bytes : List ℕ) → SpellAll SpellsBytes rest (bytes ∷ []) → AreWhole rest
+last-whole rest bytes spelled =
+    let last = one_token_of SpellsBytes rest bytes spelled in
+    rw last.is (bytes-whole last.token bytes last.spells, tt)
+
+-- The tokens of each request
+
+word : (token : List ℕ) → is_whole token ≡ true → IsWhole token
+word token h = by_test token h
+
+tokens-whole : (r : Request) (tokens : TokenList) → SpellsServed r tokens → AreWhole tokens
+tokens-whole Begin tokens h = rw (h.2.is, h.2.spell_rest) (word (codes "begin") refl, tt)
+tokens-whole Commit tokens h = rw (h.2.is, h.2.spell_rest) (word (codes "commit") refl, tt)
+tokens-whole Rollback tokens h = rw (h.2.is, h.2.spell_rest) (word (codes "rollback") refl, tt)
+tokens-whole (Savepoint name) tokens h = rw (h.2.is, h.2.spell_rest) (word (codes "savepoint") refl, (name-whole name h.0.1, tt))
+tokens-whole (Release name) tokens h = rw (h.2.is, h.2.spell_rest) (word (codes "release") refl, (name-whole name h.0.1, tt))
+tokens-whole (RollbackTo name) tokens h =
+    rw (h.2.is, h.2.spell_rest) (word (codes "rollback") refl, (word (codes "to") refl, (name-whole name h.0.1, tt)))
+tokens-whole Vacuum tokens h = rw (h.2.is, h.2.spell_rest) (word (codes "vacuum") refl, tt)
+tokens-whole (LoCreat mode) tokens h = rw (h.2.is, h.2.spell_rest) (word (codes "lo_creat") refl, (signed-whole mode, tt))
+tokens-whole (LoCreate oid) tokens h = rw (h.2.is, h.2.spell_rest) (word (codes "lo_create") refl, (decimal-whole oid, tt))
+tokens-whole (LoOpen oid mode) tokens h =
+    rw (h.2.is, h.2.spell_rest) (word (codes "lo_open") refl, (decimal-whole oid, (signed-whole mode, tt)))
+tokens-whole (LoUnlink oid) tokens h = rw (h.2.is, h.2.spell_rest) (word (codes "lo_unlink") refl, (decimal-whole oid, tt))
+tokens-whole (LoGet oid from None) tokens h = rw (h.2.is, h.2.spell_rest) (word (codes "lo_get") refl, (decimal-whole oid, tt))
+tokens-whole (LoGet oid from (Some count)) tokens h =
+    rw (h.2.is, h.2.spell_rest) (word (codes "lo_get") refl, (decimal-whole oid, (signed-whole from, (signed-whole count, tt))))
+tokens-whole (LoPut oid at bytes) tokens h =
+    rw h.2.is (word (codes "lo_put") refl, (decimal-whole oid, (signed-whole at, last-whole h.2.rest bytes h.2.spell_rest)))
+tokens-whole (LoFromBytea oid bytes) tokens h =
+    rw h.2.is (word (codes "lo_from_bytea") refl, (decimal-whole oid, last-whole h.2.rest bytes h.2.spell_rest))
+tokens-whole (LoClose fd) tokens h = rw (h.2.is, h.2.spell_rest) (word (codes "lo_close") refl, (signed-whole fd, tt))
+tokens-whole (LoRead fd count) tokens h =
+    rw (h.2.is, h.2.spell_rest) (word (codes "lo_read") refl, (signed-whole fd, (signed-whole count, tt)))
+tokens-whole (LoWrite fd bytes) tokens h =
+    rw h.2.is (word (codes "lo_write") refl, (signed-whole fd, last-whole h.2.rest bytes h.2.spell_rest))
+tokens-whole (LoLseek fd offset whence) tokens h =
+    rw (h.2.is, h.2.spell_rest) (word (codes "lo_lseek") refl, (signed-whole fd, (signed-whole offset, (signed-whole whence, tt))))
+tokens-whole (LoLseek64 fd offset whence) tokens h =
+    rw (h.2.is, h.2.spell_rest) (word (codes "lo_lseek64") refl, (signed-whole fd, (signed-whole offset, (signed-whole whence, tt))))
+tokens-whole (LoTell fd) tokens h = rw (h.2.is, h.2.spell_rest) (word (codes "lo_tell") refl, (signed-whole fd, tt))
+tokens-whole (LoTell64 fd) tokens h = rw (h.2.is, h.2.spell_rest) (word (codes "lo_tell64") refl, (signed-whole fd, tt))
+tokens-whole (LoTruncate fd size) tokens h =
+    rw (h.2.is, h.2.spell_rest) (word (codes "lo_truncate") refl, (signed-whole fd, (signed-whole size, tt)))
+tokens-whole (LoTruncate64 fd size) tokens h =
+    rw (h.2.is, h.2.spell_rest) (word (codes "lo_truncate64") refl, (signed-whole fd, (signed-whole size, tt)))
+tokens-whole (CreateTable name columns) tokens h =
+    rw h.2.is (
+      word (codes "create") refl,
+      (
+        word (codes "table") refl,
+        (
+          name-whole name h.0.1.0,
+          items-whole SpellsColumn (λ (c : Column). IsName c.name) column-whole h.2.rest columns h.2.spell_rest h.0.1.1.named,
+        ),
+      ),
+    )
+tokens-whole (Insert table values) tokens h =
+    rw h.2.is (
+      word (codes "insert") refl,
+      (name-whole table h.0.1.0, items-whole SpellsLiteral IsLiteral literal-whole h.2.rest values h.2.spell_rest h.0.1.2),
+    )
+tokens-whole (Update table id changes) tokens h =
+    rw h.2.is (
+      word (codes "update") refl,
+      (
+        name-whole table h.0.1.0,
+        (
+          signed-whole id,
+          items-whole SpellsChange (λ (a : Assign). IsName a.column × IsLiteral a.value) change-whole h.2.rest changes h.2.spell_rest h.0.1.1.1,
+        ),
+      ),
+    )
+tokens-whole (Rewrite table storages) tokens h =
+    rw h.2.is (
+      word (codes "rewrite") refl,
+      (
+        name-whole table h.0.1.0,
+        items-whole SpellsStorage (λ (c : Column). IsName c.name × (c.kind ≡ types.Bytea)) storage_column-whole h.2.rest storages h.2.spell_rest h.0.1.1.1,
+      ),
+    )
+tokens-whole (Delete table id) tokens h =
+    rw (h.2.is, h.2.spell_rest) (word (codes "delete") refl, (name-whole table h.0.1, (signed-whole id, tt)))
+tokens-whole (Get table id) tokens h =
+    rw (h.2.is, h.2.spell_rest) (word (codes "get") refl, (name-whole table h.0.1, (signed-whole id, tt)))
+tokens-whole (Ids table) tokens h = rw (h.2.is, h.2.spell_rest) (word (codes "ids") refl, (name-whole table h.0.1, tt))
+tokens-whole (Slice table id column from count) tokens h =
+    rw (h.2.is, h.2.spell_rest) (
+      word (codes "slice") refl,
+      (name-whole table h.0.1.0, (signed-whole id, (name-whole column h.0.1.1, (signed-whole from, (signed-whole count, tt))))),
+    )
+tokens-whole (Declare cursor table id) tokens h =
+    rw (h.2.is, h.2.spell_rest) (
+      word (codes "declare") refl,
+      (name-whole cursor h.0.1.0, (name-whole table h.0.1.1, (signed-whole id, tt))),
+    )
+tokens-whole (Fetch cursor column from count) tokens h =
+    rw (h.2.is, h.2.spell_rest) (
+      word (codes "fetch") refl,
+      (name-whole cursor h.0.1.0, (name-whole column h.0.1.1, (signed-whole from, (signed-whole count, tt)))),
+    )
+tokens-whole (Close cursor) tokens h = rw (h.2.is, h.2.spell_rest) (word (codes "close") refl, (name-whole cursor h.0.1, tt))
+tokens-whole (Array name text) tokens h =
+    rw (h.2.is, h.2.spell_rest) (word (codes "array") refl, (name-whole name h.0.1.0, (text-whole text h.0.1.1.1, tt)))
+tokens-whole (Load name table id column) tokens h =
+    rw (h.2.is, h.2.spell_rest) (
+      word (codes "load") refl,
+      (name-whole name h.0.1.0, (name-whole table h.0.1.1, (signed-whole id, (name-whole column h.0.1.2, tt)))),
+    )
+tokens-whole (Set name sub element) tokens h =
+    rw (h.2.is, h.2.spell_rest) (word (codes "set") refl, (name-whole name h.0.1, (signed-whole sub, (element-whole element, tt))))
+tokens-whole (Elem name sub) tokens h =
+    rw (h.2.is, h.2.spell_rest) (word (codes "elem") refl, (name-whole name h.0.1, (signed-whole sub, tt)))
+tokens-whole (Show name) tokens h = rw (h.2.is, h.2.spell_rest) (word (codes "show") refl, (name-whole name h.0.1, tt))
+tokens-whole other tokens h = absurd (false≢true h.0.0)
+
+-- Lines: tokens joined by spaces
+
+abbrev joined : TokenList → List ℕ
+joined [] = []
+joined (t ∷ []) = t
+joined (t ∷ u ∷ tokens) = t ++ 32 ∷ joined (u ∷ tokens)
+
+no_space : (token : List ℕ) → IsWhole token → All (λ b. (b == 32) ≡ false) token
+no_space [] h = All-nil (λ b. (b == 32) ≡ false)
+no_space (b ∷ token) h = All-cons (λ b. (b == 32) ≡ false) b token (neither (b == 32) (b == 10) h.0).0 (no_space token h.1)
+
+-- cut at spaces, they are the tokens again
+cut_joined : (t : List ℕ) (tokens : TokenList) → AreWhole (t ∷ tokens) → tokens_of (joined (t ∷ tokens)) ≡ t ∷ tokens
+cut_joined t [] h = slice_split_none (λ b. b == 32) t (no_space t h.0)
+cut_joined t (u ∷ tokens) h =
+    slice_split_at (λ b. b == 32) t 32 (joined (u ∷ tokens)) (no_space t h.0) refl ∙ ap (λ (ts : TokenList). t ∷ ts) (cut_joined u tokens h.1)
+
+abbrev HasNoFeed : List ℕ → Type 0
+HasNoFeed text = AllByRecursion (λ b. (b == 10) ≡ false) text
+
+no_feed_token : (token more : List ℕ) → IsWhole token → HasNoFeed more → HasNoFeed (token ++ more)
+no_feed_token [] more h k = k
+no_feed_token (b ∷ token) more h k = ((neither (b == 32) (b == 10) h.0).1, no_feed_token token more h.1 k)
+
+no_feed_alone : (token : List ℕ) → IsWhole token → HasNoFeed token
+no_feed_alone [] h = tt
+no_feed_alone (b ∷ token) h = ((neither (b == 32) (b == 10) h.0).1, no_feed_alone token h.1)
+
+no_feed_joined : (tokens : TokenList) → AreWhole tokens → HasNoFeed (joined tokens)
+no_feed_joined [] h = tt
+no_feed_joined (t ∷ []) h = no_feed_alone t h.0
+no_feed_joined (t ∷ u ∷ tokens) h = no_feed_token t (32 ∷ joined (u ∷ tokens)) h.0 (refl, no_feed_joined (u ∷ tokens) h.1)
+
+as_all : (text : List ℕ) → HasNoFeed text → All (λ b. (b == 10) ≡ false) text
+as_all [] h = All-nil (λ b. (b == 10) ≡ false)
+as_all (b ∷ text) h = All-cons (λ b. (b == 10) ≡ false) b text h.0 (as_all text h.1)
+
+-- a text without line feeds is one line
+one_line : (b : ℕ) (text : List ℕ) → HasNoFeed (b ∷ text) → lines (b ∷ text) ≡ (b ∷ text) ∷ []
+one_line b text h =
+    let some : (length (b ∷ text) == 0) ≡ false = grind (arith, nat_tests) in
+    rw (slice_split_none (λ c. c == 10) (b ∷ text) (as_all (b ∷ text) h), some) refl
+
+-- marks
+
+abbrev first_of : List ℕ → ℕ
+first_of [] = 0
+first_of (b ∷ text) = b
+
+mark_among : (s a n : ℕ) → a ≤ s → s < a + n → find (λ session. bytes_eq (mark_of s) (mark_of session)) (range_with_len a n) ≡ Some s
+mark_among s a zero low high = absurd (omega (arith, low, high))
+mark_among s a (suc n) low high = elim (tested (bytes_eq (mark_of s) (mark_of a))) [
+  | inl same ↦
+      let marks : mark_of s ≡ mark_of a = (bytes_eq-Decides (mark_of s) (mark_of a)).0 same in
+      let first : s + 64 ≡ a + 64 = ap (λ (mark : List ℕ). first_of mark) marks in
+      let is : a ≡ s = omega (arith, first) in
+      rw same (ap (λ (session : ℕ). Some session) is)
+  | inr other ↦
+      let apart : s ≢ a = λ e. absurd (false≢true (sym other ∙ (bytes_eq-Decides (mark_of s) (mark_of a)).1 (ap mark_of e))) in
+      rw other (mark_among s (a + 1) n (omega (arith, low, apart)) (omega (arith, high)))
+]
+
+mark_read : (s : ℕ) → 1 ≤ s → s ≤ 16 → session_of (mark_of s) ≡ Some s
+mark_read s low high = mark_among s 1 16 low (omega (arith, high))
+
+mark-whole : (s : ℕ) → IsWhole (mark_of s)
+mark-whole s = (visible (s + 64) (omega arith), by_test (codes ":") refl)
+
+-- the line of a session's request
+
+abbrev line_of : (s : ℕ) → TokenList → List ℕ
+line_of s tokens = joined (mark_of s ∷ tokens)
+
+entry_read : (s : ℕ) (tokens : TokenList) (r : Request) → 1 ≤ s → s ≤ 16 → AreWhole tokens → ((column : ℕ) → request_of column tokens ≡ Read r) → entry_of (line_of s tokens) ≡ Read (s, r)
+entry_read s tokens r low high whole spelled =
+    rw (cut_joined (mark_of s) tokens (mark-whole s, whole), mark_read s low high, spelled (column_after 1 (mark_of s) tokens)) refl
+
+line_alone : (s : ℕ) (tokens : TokenList) → AreWhole tokens → lines (line_of s tokens) ≡ line_of s tokens ∷ []
+line_alone s [] h = one_line (s + 64) (codes ":") (no_feed_joined (mark_of s ∷ []) (mark-whole s, tt))
+line_alone s (u ∷ tokens) h =
+    one_line (s + 64) (codes ":" ++ 32 ∷ joined (u ∷ tokens)) (no_feed_joined (mark_of s ∷ u ∷ tokens) (mark-whole s, h))
+
+no_comment : (s : ℕ) → not ((s + 64) == 35) ≡ true
+no_comment s = let other : ((s + 64) == 35) ≡ false = grind (arith, nat_tests) in rw other refl
+
+line_counts : (s : ℕ) (tokens : TokenList) → is_request_line (line_of s tokens) ≡ true
+line_counts s [] = no_comment s
+line_counts s (u ∷ tokens) = no_comment s
+
+line_read : (s : ℕ) (tokens : TokenList) (r : Request) → 1 ≤ s → s ≤ 16 → AreWhole tokens → ((column : ℕ) → request_of column tokens ≡ Read r) → script_of (line_of s tokens) ≡ Some (with_entry (script_with (replicate 16 []) []) (s, r))
+line_read s tokens r low high whole spelled =
+    rw (line_alone s tokens whole, line_counts s tokens, entry_read s tokens r low high whole spelled) refl
+
+pub has_text : (s : ℕ) (r : Request) → 1 ≤ s → s ≤ 16 → IsServed r → HasRanges r → HasText s r
+has_text s r low high served ranges =
+    let spelling = has_spelling r served ranges in
+    let whole = tokens-whole r spelling.tokens (request-some 1 spelling.tokens r (spelling.spelled 1)) in
+    record { text = line_of s spelling.tokens; spelled = line_read s spelling.tokens r low high whole spelling.spelled }
