@@ -14,7 +14,7 @@ use Rattle.lo_calls.specs.declared.store.LoStore.{LoStore}
 use Rattle.lo_calls.specs.Descriptors.{descriptors_of}
 use Rattle.lo_calls.specs.Row as objects
 use Rattle.lo_calls.specs.World as lo_calls
-use Rattle.lo_calls.specs.World.{World, world, here_of, IsSameSession}
+use Rattle.lo_calls.specs.World.{World, world, here_of}
 use Rattle.lo_model.specs.declared.owner.Owner.TheVariants.{Running}
 use Rattle.lo_model.specs.Edit.{Deed, Edit, edits_by}
 use Rattle.lo_model.specs.Session.{Session}

@@ -1,8 +1,7 @@
 -- Rows as replies have them: cells of flat bytes are told by their arrays' texts.
 use Rattle.std.proofs.Common.{◌≡◌, ◌<◌, ℕ, List, [], ◌∷◌, ◌++◌, length, drop, Some, refl, ap, ap₂, sym, subst, ◌∙◌, arith, append_assoc, append-nil}
 use Rattle.std.specs.Prelude.{slice_get}
-use Rattle.std.specs.Option.{is_some, unwrap_or}
-use Rattle.std.proofs.lemmas.Bool.{false≢true}
+use Rattle.std.specs.Option.{unwrap_or}
 use Rattle.expanded_array.proofs.FlatLaws.{flat_holds}
 use Rattle.expanded_array.specs.Array.{Array, IsHeld}
 use Rattle.expanded_array.specs.Flat.{IsFlat, flat_bytes}

@@ -1,25 +1,22 @@
 -- The rows of requests on cursors match the rows of their calls, where cursors are of later clocks.
-use Rattle.std.proofs.Common.{◌≡◌, ◌≤◌, ◌<◌, ℕ, ℤ, ◌+◌, Bool, true, false, cond, not, List, [], ◌∷◌, ◌++◌, length, map, Option, Some, None, refl, ap, sym, subst, ◌∙◌, arith}
-use Rattle.std.specs.Prelude.{All, is_some, is_none, option_map, bytes_eq, filter}
+use Rattle.std.proofs.Common.{◌≡◌, ℕ, ℤ, Bool, true, false, not, List, [], ◌∷◌, Option, Some, None, refl, ap, sym, subst, ◌∙◌}
+use Rattle.std.specs.Prelude.{All, is_some, is_none, option_map, bytes_eq}
 use Rattle.std.proofs.lemmas.Bool.{false≢true}
 use Rattle.std.proofs.lemmas.List.{map-append}
 use Rattle.std.proofs.lemmas.Option.{same_Some}
 use Rattle.std.proofs.lemmas.List.Elements.{All-filter, All-head, All-push, All-tail}
-use Rattle.lo_base.specs.declared.column.Column.{Column}
-use Rattle.lo_base.specs.declared.value.Value.{Value}
 use Rattle.lo_model.specs.declared.viewer.Viewer.TheVariants.{Whole}
 use Rattle.lo_model.specs.Descriptor.{Cursor, cursor_in, without_name}
 use Rattle.lo_model.specs.Edit.{Deed, Edit}
 use Rattle.lo_model.specs.Row.{row_in}
 use Rattle.row_tables.specs.CursorRules.{close_row, cursor_columns, cursor_values, declare_row, fetch_row}
-use Rattle.row_tables.specs.RowRules.{slice_refusals, sliced, value_under, values_in}
-use Rattle.row_tables.specs.Row as tables
+use Rattle.row_tables.specs.RowRules.{values_in}
 use Rattle.lo_machine.specs.Alike.{SeesNone}
 use Rattle.lo_machine.specs.Engine.{IsLeveled}
 use Rattle.lo_machine.specs.Later.{all_later_cursors, later_cursor}
-use Rattle.lo_machine.specs.Row.{Here, Row, on_tables, tables_here}
+use Rattle.lo_machine.specs.Row.{Here, on_tables, tables_here}
 use Rattle.lo_machine.specs.TableRows.{declare_line, declared}
-use Rattle.lo_machine.proofs.TableCalls.{IsMatch, IsReading, first_same, later_here}
+use Rattle.lo_machine.proofs.TableCalls.{IsMatch, first_same, later_here}
 use Rattle.lo_machine.proofs.TablesAlike.{no_deeds}
 
 -- the cursor of a name, and those but it

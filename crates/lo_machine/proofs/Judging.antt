@@ -1,5 +1,5 @@
 -- What literals give their columns, and what they are refused by.
-use Rattle.std.proofs.Common.{◌≡◌, ◌≢◌, ◌≤◌, ◌<◌, ℕ, pos, zero, suc, ◌+◌, Bool, true, false, cond, List, [], ◌∷◌, ◌++◌, length, drop, Option, Some, None, refl, ap, sym, subst, ◌∙◌, arith, ◌⊎◌, inl, inr, ⊎_elim}
+use Rattle.std.proofs.Common.{◌≡◌, ◌≤◌, ◌<◌, ℕ, true, false, List, length, Option, Some, None, refl, ap, sym, ◌∙◌, arith, ◌⊎◌, inl, inr}
 use Rattle.std.specs.Prelude.{◌↔◌, nat_lt, Result, Ok, Err, IfOk, IfErr}
 use Rattle.std.proofs.lemmas.Bool.{lt-ltb}
 use Rattle.std.proofs.lemmas.Bool.Decides.{nat_tests}
@@ -9,17 +9,15 @@ use Rattle.expanded_array.specs.Flat.{IsFlat, flat_bytes}
 use Rattle.expanded_array.specs.Read.{array_of_text, refusal_of_array, size_refusal, text_refusal}
 use Rattle.expanded_array.specs.Spelling.{IsTextDenial, IsTooBig, Spells, malformed}
 use Rattle.lo_base.specs.declared.column.Column.{Column}
-use Rattle.lo_base.specs.declared.column.ColType.{ColType}
 use Rattle.lo_base.specs.declared.column.ColType.TheVariants as types
 use Rattle.lo_base.specs.declared.refusal.Denied.{Denied}
 use Rattle.lo_base.specs.declared.refusal.Denied.TheVariants.{By, NoMemory}
 use Rattle.lo_base.specs.declared.refusal.Refusal.{Refusal}
 use Rattle.lo_base.specs.declared.value.Literal.{Literal}
 use Rattle.lo_base.specs.declared.value.Literal.TheVariants.{ArrayText}
-use Rattle.lo_base.specs.declared.value.Value.{Value}
 use Rattle.lo_base.specs.declared.value.Value.TheVariants.{Bytes}
 use Rattle.lo_machine.specs.Literals.{DeniesText, IsArrayFrom, IsValueOf}
-use Rattle.lo_machine.specs.Values.{array_or_empty, is_int4_array}
+use Rattle.lo_machine.specs.Values.{array_or_empty}
 use Rattle.lo_machine.specs.declared.variables.Variables.{Variables}
 
 -- ---- texts of arrays

@@ -1,6 +1,6 @@
 -- Levels that end: merged into the one below, undone, or gone with their transaction.
 use Rattle.std.proofs.Common.{◌≡◌, ◌≢◌, ◌≤◌, ◌<◌, ℕ, ◌+◌, ◌-◌, Bool, false, List, [], ◌++◌, length, take, Option, Some, refl, sym, subst, arith}
-use Rattle.std.specs.Prelude.{All, IsPermutation, map, nat_lt, slice_get, slice_set, slice_index_or}
+use Rattle.std.specs.Prelude.{All, map, nat_lt, slice_get, slice_set, slice_index_or}
 use Rattle.std.proofs.lemmas.List.Elements.{All-map, All-filter}
 use Rattle.std.proofs.lemmas.List.Sorted.{IsPermutation-trans, IsPermutation-append_comm}
 use Rattle.std.proofs.lemmas.Option.{slice_get_read}
@@ -31,7 +31,7 @@ use Rattle.xact_core.specs.Kept.{HoldsWholeViews}
 use Rattle.xact_core.specs.Transactions.{Transactions, levels_of}
 use Rattle.lo_machine.specs.declared.engine.Engine.{Engine}
 use Rattle.lo_machine.specs.Engine.{xacts_of, clock_of, names_in, all_holds, IsNamed, IsEngine, Becomes, Loses}
-use Rattle.lo_machine.proofs.LevelMoves.{Turned, IsAfter, Moves, Closes, TurnsRows, cs, cs', mid_others, mid_levels, mid_clock, mid_undos, mid_whole, mid_goes, moved_sound, moved_becomes}
+use Rattle.lo_machine.proofs.LevelMoves.{Turned, IsAfter, Moves, Closes, TurnsRows, mid_others, mid_levels, mid_clock, mid_undos, mid_whole, mid_goes, moved_sound, moved_becomes}
 use Rattle.lo_machine.proofs.LevelSteps.{turned_ended, after_released, after_undone, after_ended, lost_undone, rows_lost_undone, rows_go_undone}
 use Rattle.lo_machine.proofs.SessionPlaces.{holds_exchanged, own_open}
 

@@ -29,7 +29,6 @@ use Rattle.row_tables.specs.World.{SameRows}
 use Rattle.row_tables.proofs.Laws.{with_held}
 use Rattle.row_tables.proofs.Resting.{for_held, for_same, goes_same}
 use Rattle.lo_machine.specs.declared.engine.Engine.{Engine}
-use Rattle.lo_machine.specs.CallRows.{Shared}
 use Rattle.lo_machine.specs.Engine.{xacts_of, clock_of, names_in, all_holds, IsLeveled, IsNamed, IsPlaced, IsEngine, HasRows, HasSession, HasSessions, Becomes}
 use Rattle.lo_machine.specs.Later.{all_later, all_later_cursors, with_session_at}
 use Rattle.lo_machine.specs.Well.{IsFirst}

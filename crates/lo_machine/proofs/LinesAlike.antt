@@ -1,7 +1,7 @@
 -- The rows of insert and update match those of their calls, where the literals were judged and nothing refused them; and what
 -- refuses a request before it comes to its call.
-use Rattle.std.proofs.Common.{◌≡◌, ◌≤◌, ◌<◌, ℕ, ℤ, pos, ◌+◌, ◌-◌, Bool, true, false, not, List, [], ◌∷◌, ◌++◌, length, map, Option, Some, None, refl, ap, sym, subst, ◌∙◌, arith}
-use Rattle.std.specs.Prelude.{All, is_some, is_none, option_map, slice_get, slice_index_or, Result, Ok, Err}
+use Rattle.std.proofs.Common.{◌≡◌, ◌≤◌, ℕ, ℤ, pos, ◌+◌, ◌-◌, true, false, List, [], ◌∷◌, ◌++◌, Option, Some, None, refl, ap, sym, subst, ◌∙◌, arith}
+use Rattle.std.specs.Prelude.{is_some, is_none, option_map, slice_get, slice_index_or, Err}
 use Rattle.std.proofs.lemmas.Bool.{false≢true}
 use Rattle.std.proofs.lemmas.Option.{same_Some, slice_get_read}
 use Rattle.lo_base.specs.declared.column.Column.{Column}
@@ -15,7 +15,6 @@ use Rattle.lo_base.specs.declared.value.Value.{Value}
 use Rattle.lo_model.specs.Database.{Table}
 use Rattle.lo_model.specs.Edit.{Deed, Edit}
 use Rattle.lo_model.specs.Session.{Session}
-use Rattle.lo_model.specs.Touch.{RowOf, busy_with}
 use Rattle.lo_pages.specs.Outcome as pages
 use Rattle.lo_pages.proofs.Steps.{left_none}
 use Rattle.row_tables.specs.Catalog.{columns_in, columns_of, table_in}
@@ -35,14 +34,14 @@ use Rattle.lo_machine.specs.Engine.{xacts_of}
 use Rattle.lo_machine.specs.declared.engine.Engine.{Engine}
 use Rattle.lo_machine.specs.declared.variables.Variables.{Variables}
 use Rattle.lo_machine.specs.CallRows.{Shared}
-use Rattle.lo_machine.specs.Dispatch.{AnswersCall, CanCall, Finds, ReadsCall, here_in}
+use Rattle.lo_machine.specs.Dispatch.{CanCall, Finds, ReadsCall, here_in}
 use Rattle.lo_machine.specs.Literals.{AreChangesOf, AreValuesOf, DeniesChanges, DeniesValues}
 use Rattle.lo_machine.specs.Row.{Here, Row, on_tables, tables_here}
 use Rattle.lo_machine.specs.State.{Variable}
 use Rattle.lo_machine.specs.TableRows.{changes_here, changes_judged, changes_of, insert_line, inserted, table_columns, update_line, wrong_count}
 use Rattle.lo_machine.specs.Values.{all_judged, values_of}
 use Rattle.lo_machine.specs.Variables.{IsAs}
-use Rattle.lo_machine.proofs.TableCalls.{Carries, IsMatch, Matches, carries_same, first_same, high_of, later_here, low_of, reads_later, stays_as, table_sound, with_tables}
+use Rattle.lo_machine.proofs.TableCalls.{Carries, IsMatch, carries_same, first_same, high_of, later_here, low_of, reads_later, stays_as, table_sound, with_tables}
 use Rattle.lo_machine.proofs.TablesAlike.{held_none, last_none, one_put}
 
 -- The engine is as it was: a term refused the request, or there was no memory.

@@ -1,16 +1,14 @@
 -- The row of a rewrite matches the row of its call: where nobody else holds a row of the table, each put of one is free.
-use Rattle.std.proofs.Common.{◌≡◌, ◌≤◌, ◌<◌, ℕ, ℤ, ◌+◌, Bool, true, false, cond, not, List, [], ◌∷◌, ◌++◌, length, map, Option, Some, None, refl, ap, sym, subst, ◌∙◌, arith, append-nil, append_assoc}
+use Rattle.std.proofs.Common.{◌≡◌, ℕ, ℤ, ◌+◌, Bool, true, false, List, [], ◌∷◌, ◌++◌, length, Option, Some, None, refl, ap, sym, subst, arith, append-nil, append_assoc}
 use Rattle.std.specs.Prelude.{◌==◌, ◌&&◌, is_some, bytes_eq, if◌then◌else◌}
 use Rattle.std.proofs.lemmas.Bool.{false≢true}
 use Rattle.std.proofs.lemmas.Bool.Decides.{nat_tests}
 use Rattle.lo_base.specs.declared.column.Column.{Column}
 use Rattle.lo_base.specs.declared.refusal.Refusal.{Refusal}
-use Rattle.lo_base.specs.declared.value.Value.{Value}
 use Rattle.lo_model.specs.declared.owner.Owner.{Owner}
-use Rattle.lo_model.specs.declared.owner.Owner.TheVariants.{Running, Committed}
+use Rattle.lo_model.specs.declared.owner.Owner.TheVariants.{Running}
 use Rattle.lo_model.specs.Edit.{Deed, Create, Write, Cut, Unlink, Put, Delete, Edit, edits_by}
 use Rattle.lo_model.specs.Listing.{ids_in}
-use Rattle.lo_model.specs.Row.{is_row}
 use Rattle.lo_model.specs.Touch.{RowOf, RowsOf, Touched, busy_with, holder_of, lower_of, meets, other_session, touched}
 use Rattle.lo_pages.specs.declared.pages.Pages.{Pages}
 use Rattle.lo_pages.specs.Calls.{IsMaker}
@@ -23,7 +21,7 @@ use Rattle.row_tables.specs.Terms.{busy_for, first_of, no_table}
 use Rattle.row_tables.specs.Values.{id_of}
 use Rattle.row_versions.specs.Stands.{made_now}
 use Rattle.xact_core.specs.Transactions.{Transactions, levels_of}
-use Rattle.lo_machine.specs.Row.{Here, Row, on_tables, tables_here}
+use Rattle.lo_machine.specs.Row.{Here, on_tables}
 use Rattle.lo_machine.proofs.TableCalls.{IsMatch, first_same, later_here}
 use Rattle.lo_machine.proofs.TablesAlike.{held_none, last_none}
 

@@ -1,6 +1,6 @@
 -- The literals of an insert, judged one after another.
-use Rattle.std.proofs.Common.{◌≡◌, ◌≢◌, ◌≤◌, ◌<◌, ℕ, pos, zero, suc, ◌+◌, Bool, true, false, cond, List, [], ◌∷◌, ◌++◌, length, drop, Option, Some, None, refl, ap, sym, subst, ◌∙◌, arith, append_assoc, append-nil}
-use Rattle.std.specs.Prelude.{◌==◌, bytes_eq, codes, slice_get, Result, Ok, Err, IfErr, IsErrAnd}
+use Rattle.std.proofs.Common.{◌≡◌, ◌≢◌, ◌≤◌, ◌<◌, ℕ, zero, suc, ◌+◌, true, false, List, [], ◌∷◌, ◌++◌, length, drop, Option, Some, None, refl, ap, sym, subst, ◌∙◌, arith, append_assoc, append-nil}
+use Rattle.std.specs.Prelude.{◌==◌, codes, slice_get, Result, Ok, Err, IfErr, IsErrAnd}
 use Rattle.std.specs.List.{AllByRecursion}
 use Rattle.std.specs.Option.{is_some, unwrap_or}
 use Rattle.std.proofs.lemmas.Bool.{false≢true, eq-eqb}
@@ -14,7 +14,7 @@ use Rattle.lo_base.specs.declared.value.Literal.{Literal}
 use Rattle.lo_base.specs.declared.value.Value.{Value}
 use Rattle.lo_pages.specs.Outcome.{first_of}
 use Rattle.toast_plan.specs.Columns.{IsTableColumns, StartsWithId as ColumnsStartWithId}
-use Rattle.toast_plan.specs.Row.{AreRowValues, FitColumns, StartsWithId, is_null_value}
+use Rattle.toast_plan.specs.Row.{FitColumns, StartsWithId, is_null_value}
 use Rattle.lo_machine.specs.FlatRows.{AreFlatValues}
 use Rattle.lo_machine.specs.Literals.{AreValuesOf, DeniesValue, DeniesValues, IsValueOf}
 use Rattle.lo_machine.specs.State.{Variable}

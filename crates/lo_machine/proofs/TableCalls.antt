@@ -1,7 +1,7 @@
 -- A request on tables is the call of the engine's tables: what the call keeps of the engine, and what it makes of what the engine
 -- has, in the words of its row. Large objects, descriptors and array variables are as they were.
 use Rattle.std.proofs.Common.{◌≡◌, ◌≢◌, ◌≤◌, ◌<◌, ℕ, zero, suc, ◌+◌, Bool, true, false, not, List, [], ◌∷◌, ◌++◌, length, Option, Some, None, refl, ap, sym, subst, ◌∙◌, arith, inl, inr, append-nil}
-use Rattle.std.specs.Prelude.{nat_le, All, IsPermutation, ◌==◌, ◌&&◌, is_some, Result, Ok, Err, IfOk, IfErr, OnErr}
+use Rattle.std.specs.Prelude.{nat_le, All, IsPermutation, ◌==◌, ◌&&◌, Ok, Err}
 use Rattle.std.specs.List.{find, range_with_len}
 use Rattle.std.proofs.lemmas.Bool.{cases_eq}
 use Rattle.std.proofs.lemmas.List.{get_or_past}
@@ -13,9 +13,8 @@ use Rattle.lo_base.specs.declared.refusal.Refusal.{Refusal}
 use Rattle.lo_base.specs.declared.reply.Reply.{Reply}
 use Rattle.lo_model.specs.declared.owner.Owner.TheVariants.{Running}
 use Rattle.lo_model.specs.declared.viewer.Viewer.TheVariants.{Whole}
-use Rattle.lo_model.specs.Descriptor.{Cursor}
 use Rattle.lo_model.specs.Edit.{Deed, Edit, edits_by}
-use Rattle.lo_model.specs.Session.{Session, lowest_open, session_numbers}
+use Rattle.lo_model.specs.Session.{Session, lowest_open}
 use Rattle.lo_model.specs.Transaction.{has_levels, is_open}
 use Rattle.lo_pages.specs.declared.pages.Pages.{Pages}
 use Rattle.lo_pages.specs.Calls.{IsMaker}
@@ -26,22 +25,20 @@ use Rattle.lo_pages.proofs.Steps.{left_none}
 use Rattle.row_tables.specs.declared.tables.Tables.{Tables}
 use Rattle.row_tables.specs.Cursors.{HoldsOwn, HoldsRest, cursors_of, own_cursors, holds_of as cursor_holds}
 use Rattle.row_tables.specs.Row as tables
-use Rattle.row_tables.specs.Standing.{Go, cursors_in, tables_in}
+use Rattle.row_tables.specs.Standing.{cursors_in, tables_in}
 use Rattle.row_tables.specs.Standing as standing
 use Rattle.row_tables.proofs.Granting.{same_holds, same_named, same_rest}
 use Rattle.row_tables.proofs.StoringRows.{leaves_none}
-use Rattle.row_tables.specs.declared.cursors.Cursor.{Cursor as Entry}
 use Rattle.row_tables.specs.Terms.{first_of}
 use Rattle.row_tables.specs.World as calls
 use Rattle.row_tables.specs.World.{World, world, here_of}
-use Rattle.xact_core.specs.declared.snapshot.Snapshot.{Snapshot}
 use Rattle.xact_core.specs.Kept.{HoldsOthers, HoldsWholeViews, current, kept_views}
 use Rattle.xact_core.specs.Transactions.{Transactions, levels_of}
 use Rattle.row_versions.specs.declared.Core.{Core}
 use Rattle.lo_machine.specs.declared.engine.Engine.{Engine}
-use Rattle.lo_machine.specs.CallRows.{Shared, session_by, shared_by}
-use Rattle.lo_machine.specs.Dispatch.{AnswersCall, CanCall, Denies, Finds, Grants, IsGranted, ReadsCall, Refuses, Stays, here_in}
-use Rattle.lo_machine.specs.Engine.{xacts_of, clock_of, names_in, all_holds, Has, HasRows, HasSession, HasSessions, HasVariables, IsEngine, IsLeveled, IsNamed, with_variables_at}
+use Rattle.lo_machine.specs.CallRows.{Shared, session_by}
+use Rattle.lo_machine.specs.Dispatch.{AnswersCall, CanCall, Denies, Finds, IsGranted, ReadsCall, Stays, here_in}
+use Rattle.lo_machine.specs.Engine.{xacts_of, clock_of, names_in, all_holds, HasSession, HasSessions, HasVariables, IsEngine, IsLeveled, with_variables_at}
 use Rattle.lo_machine.specs.Later.{all_later, all_later_cursors, with_session_at}
 use Rattle.lo_machine.specs.Row.{Here, Row, tables_here}
 use Rattle.lo_machine.specs.State.{Variable}
@@ -49,7 +46,6 @@ use Rattle.lo_machine.specs.Variables.{IsAs}
 use Rattle.lo_machine.specs.Well.{IsFirst}
 use Rattle.lo_machine.proofs.CallSteps.{same_variables}
 use Rattle.lo_machine.proofs.NamedCursors.{all_named, own_named}
-use Rattle.lo_calls.proofs.Closing.{holds_same}
 
 -- the first term of two crates
 

@@ -1,31 +1,21 @@
 -- The row of each request on tables matches the row of its call: it refuses alike and grants the same.
-use Rattle.std.proofs.Common.{◌≡◌, ◌≤◌, ◌<◌, ℕ, ℤ, ◌+◌, Bool, true, false, cond, not, List, [], ◌∷◌, ◌++◌, length, map, Option, Some, None, refl, ap, sym, subst, ◌∙◌, arith, append-nil, append_assoc}
-use Rattle.std.specs.Prelude.{All, ◌==◌, ◌&&◌, is_some, is_none, option_map, bytes_eq, filter}
+use Rattle.std.proofs.Common.{◌≡◌, ℕ, ℤ, ◌+◌, true, false, List, [], ◌∷◌, ◌++◌, length, Option, Some, None, refl, ap, sym, subst, append-nil}
+use Rattle.std.specs.Prelude.{is_some}
 use Rattle.std.proofs.lemmas.Bool.{false≢true}
-use Rattle.std.proofs.lemmas.Bool.Decides.{nat_tests}
-use Rattle.std.proofs.lemmas.List.{map-append}
-use Rattle.std.proofs.lemmas.List.Elements.{All-cons, All-filter, All-head, All-nil, All-push, All-tail}
 use Rattle.lo_base.specs.declared.column.Column.{Column}
 use Rattle.lo_base.specs.declared.refusal.Refusal.{Refusal}
 use Rattle.lo_base.specs.declared.value.Value.{Value}
-use Rattle.lo_model.specs.declared.owner.Owner.{Owner}
-use Rattle.lo_model.specs.declared.owner.Owner.TheVariants.{Running, Committed}
-use Rattle.lo_model.specs.Descriptor.{Cursor, cursor_in, without_name}
-use Rattle.lo_model.specs.Edit.{Deed, Create, Write, Cut, Unlink, Put, Delete, Edit, edits_by}
-use Rattle.lo_model.specs.Row.{is_row}
-use Rattle.lo_model.specs.Touch.{RowOf, RowsOf, Touched, busy_with, holder_of, lower_of, meets, other_session, touched}
+use Rattle.lo_model.specs.declared.owner.Owner.TheVariants.{Running}
+use Rattle.lo_model.specs.Edit.{Deed, Put, Delete, edits_by}
+use Rattle.lo_model.specs.Touch.{RowOf, busy_with}
 use Rattle.lo_pages.specs.declared.pages.Pages.{Pages}
 use Rattle.lo_pages.specs.Calls.{IsMaker}
-use Rattle.lo_pages.specs.Outcome as pages
 use Rattle.lo_pages.specs.Standing.{StandFor}
 use Rattle.lo_pages.proofs.Standing.{stand_deleted, stand_put}
-use Rattle.row_tables.specs.Row as tables
 use Rattle.row_tables.specs.RowRules.{create_table_row, delete_row, ids_row, slice_row}
 use Rattle.row_tables.specs.Terms.{busy, first_of, held_by_session, no_row, no_table}
-use Rattle.row_versions.specs.Stands.{made_now}
 use Rattle.xact_core.specs.Transactions.{Transactions, levels_of}
-use Rattle.lo_machine.specs.Later.{all_later_cursors, later_cursor}
-use Rattle.lo_machine.specs.Row.{Here, Row, on_tables, tables_here}
+use Rattle.lo_machine.specs.Row.{Here, on_tables}
 use Rattle.lo_machine.proofs.TableCalls.{IsMatch, IsReading, first_same, later_here}
 
 -- where no term holds, the last does not

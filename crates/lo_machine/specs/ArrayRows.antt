@@ -4,7 +4,6 @@ use Rattle.expanded_array.specs.Array.{Array, element_at, array_set, excess}
 use Rattle.expanded_array.specs.Layout.{array_in}
 use Rattle.expanded_array.specs.Read.{array_of_text, text_refusal}
 use Rattle.expanded_array.specs.Text.{array_text}
-use Rattle.lo_base.specs.declared.column.ColType.{ColType}
 use Rattle.lo_base.specs.declared.column.Column.{Column}
 use Rattle.lo_base.specs.declared.refusal.Cause.TheVariants.{NoVariable, NoColumn, WrongType, ArrayTooBig}
 use Rattle.lo_base.specs.declared.refusal.Refusal.{Refusal}

@@ -7,12 +7,11 @@ use Rattle.lo_base.specs.declared.refusal.Refusal.{Refusal}
 use Rattle.lo_base.specs.declared.request.Request.{Request}
 use Rattle.lo_base.specs.declared.request.Request.TheVariants.{CreateTable, Declare, Rewrite}
 use Rattle.lo_model.specs.Database.{Database, Table}
-use Rattle.lo_model.specs.Descriptor.{Cursor, Descriptor}
 use Rattle.lo_model.specs.Edit.{Deed, Edit}
 use Rattle.lo_model.specs.Session.{Session, lowest_open}
 use Rattle.lo_model.specs.Transaction.{top_level, is_open}
 use Rattle.lo_machine.specs.Row.{Here, Granted, Row}
-use Rattle.lo_machine.specs.State.{State, Outcome, Player, Variable, now, edits, session_of, variables_of, and_made}
+use Rattle.lo_machine.specs.State.{State, Outcome, Variable, now, edits, session_of, variables_of, and_made}
 use Rattle.lo_machine.specs.Terms.{pool_short, refusal}
 
 -- what sessions share beside the edits

@@ -19,7 +19,6 @@ use Rattle.lo_pages.specs.Standing.{GoWith, StandFor}
 use Rattle.xact_core.specs.declared.snapshot.Snapshot.{Snapshot}
 use Rattle.xact_core.specs.Kept.{view_at, kept_views, HoldsWholeViews}
 use Rattle.xact_core.specs.Transactions.{Transactions, levels_of}
-use Rattle.expanded_array.specs.declared.array_var.ArrayVar.{ArrayVar}
 use Rattle.row_tables.specs.declared.tables.Tables.{Tables}
 use Rattle.row_tables.specs.Cursors.{HoldsOwn, cursors_of, holds_of as cursor_holds}
 use Rattle.row_tables.specs.Standing as tables
@@ -29,7 +28,7 @@ use Rattle.lo_machine.specs.declared.engine.Engine.{Engine}
 use Rattle.lo_machine.specs.declared.variables.Variables.{Variables}
 use Rattle.lo_machine.specs.CallRows.{Shared, shared_of}
 use Rattle.lo_machine.specs.Later.{all_later, all_later_cursors, with_session_at}
-use Rattle.lo_machine.specs.State.{State, Outcome, Variable, now, edits, session_of, variables_of, variable_in}
+use Rattle.lo_machine.specs.State.{State, Outcome, Variable, now, edits, session_of, variables_of}
 use Rattle.lo_machine.specs.Step.{reply_to, state_after}
 use Rattle.lo_machine.specs.Variables.{IsAs}
 use Rattle.lo_machine.specs.Well.{IsFirst, IsWell}

@@ -1,5 +1,5 @@
 -- What the literals of a request give, and why they are refused, by the array variables of their session.
-use Rattle.std.specs.Prelude.{◌≡◌, ℕ, true, false, List, ◌∷◌, [], Some, None}
+use Rattle.std.specs.Prelude.{◌≡◌, ℕ, true, false, List, ◌∷◌, Some, None}
 use Rattle.lo_base.specs.declared.column.Column.{Column}
 use Rattle.lo_base.specs.declared.refusal.Denied.{Denied}
 use Rattle.lo_base.specs.declared.refusal.Denied.TheVariants.{By, NoMemory}

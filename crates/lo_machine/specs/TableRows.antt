@@ -13,7 +13,7 @@ use Rattle.lo_base.specs.declared.value.Value.TheVariants.{Null}
 use Rattle.lo_model.specs.Descriptor.{Cursor}
 use Rattle.row_tables.specs.Catalog.{columns_in, table_in}
 use Rattle.row_tables.specs.CursorRules.{declare_row}
-use Rattle.row_tables.specs.RowRules.{columns_here, get_row, insert_row, row_here, update_row, values_in}
+use Rattle.row_tables.specs.RowRules.{get_row, insert_row, row_here, update_row, values_in}
 use Rattle.row_tables.specs.Terms.{no_row, no_table, when}
 use Rattle.row_tables.specs.declared.change.Change.{Change}
 use Rattle.lo_machine.specs.Row.{Here, Row, answered, on_tables, tables_here, with_cursors}

@@ -13,7 +13,7 @@ ghost use Rattle.lo_machine.specs.Literals.{IsArrayOf};
 ghost use Rattle.lo_machine.specs.Values.{cells_of};
 
 use expanded_array::{ArrayVar, is_flat};
-use lo_base::{Bytes, Cause, Cell, Cells, ColType, Column, Denied, Name, NoMemory, Refusal};
+use lo_base::{Bytes, Cause, Cell, Cells, ColType, Column, Name, NoMemory, Refusal};
 use std::alloc::Global;
 
 /// Whether a row has a value for each column, and flat bytes in those of arrays. It costs the values.

@@ -1,5 +1,5 @@
 // Each request on large objects as the call of its session, with its reply. What a call does stands in lo_calls.
-ghost use Rattle.std.specs.Prelude.{◌≡◌, ◌≤◌, length, []};
+ghost use Rattle.std.specs.Prelude.{◌≤◌, length, []};
 ghost use Rattle.lo_calls.specs.DescriptorRows.{open_row, close_row, read_row, write_row, seek_row, tell_row, truncate_row};
 ghost use Rattle.lo_calls.specs.ObjectRows.{create_row, unlink_row, get_row, put_row};
 ghost use Rattle.lo_machine.specs.Dispatch.{CanCall, AnswersCall, ReadsCall};

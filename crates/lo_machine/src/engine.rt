@@ -1,7 +1,7 @@
 // The engine: transactions, large objects, tables, and for each session its descriptors, its array variables and whether its
 // block is failed; the cursors of all sessions stand with the tables. A request
 // is done at the present clock, which moves on once it was done, so that a request that finds no memory leaves the clock too.
-ghost use Rattle.std.specs.Prelude.{◌≡◌, ◌<◌, ◌+◌, ◌^◌, IfOk, IfSome, OnErr, IsTrue, FitsSigned, replicate, []};
+ghost use Rattle.std.specs.Prelude.{◌≡◌, ◌<◌, ◌^◌, IfOk, IfSome, OnErr, IsTrue, FitsSigned};
 ghost use Rattle.std.specs.Int.{w32};
 ghost use Rattle.lo_calls.specs.declared.session.LoSession.{LoSession};
 ghost use Rattle.lo_machine.specs.Engine.{clock_of, HasRows, IsEngine, StandsFor, Serves, Does, Undone, HasRoom};
@@ -12,7 +12,7 @@ ghost use Rattle.lo_machine.specs.Step.{outcome};
 ghost use Rattle.lo_machine.specs.Transactions.{may_recover};
 
 use crate::variables::Variables;
-use lo_base::{Cause, NoMemory, Refusal, Reply, Request, SESSIONS, SessionNo};
+use lo_base::{Cause, NoMemory, Reply, Request, SESSIONS, SessionNo};
 use lo_calls::{Descs, LoSession, LoStore};
 use lo_pages::Pages;
 use row_tables::Tables;

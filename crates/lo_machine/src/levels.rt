@@ -1,6 +1,6 @@
 // The levels of sessions, and the ends of their transactions. Each moves the transactions and the session's descriptors and
 // cursors, and no page and no row.
-ghost use Rattle.std.specs.Prelude.{◌≡◌, ◌<◌, ◌≤◌, ◌+◌, ◌-◌, ◌^◌, ◌∷◌, ◌++◌, [], Some, None, length, take, slice_index_or, true, false, Bool, OnOk, OnErr};
+ghost use Rattle.std.specs.Prelude.{◌≡◌, ◌<◌, ◌≤◌, ◌+◌, ◌-◌, ◌^◌, ◌∷◌, ◌++◌, [], Some, None, length, take, slice_index_or, true, false, OnOk, OnErr};
 ghost use Rattle.lo_model.specs.Levels.{released, undone, aborted, committed};
 ghost use Rattle.lo_model.specs.Session.{idle_session, session_released, session_undone};
 ghost use Rattle.xact_core.specs.Kept.{kept_views};

@@ -1,7 +1,6 @@
 // A run: programs, the schedule so far, the replies, and the engine. The type keeps that replaying gives the replies; the
 // engine is called in one place, `advance`.
-ghost use Rattle.std.specs.Prelude.{◌≡◌, ◌≤◌, ◌+◌, List, [], length, IsTrue, IsFalse, IfOk, OnOk, OnErr};
-ghost use Rattle.lo_machine.specs.Program.{program_of};
+ghost use Rattle.std.specs.Prelude.{◌≡◌, ◌+◌, [], IsTrue, IsFalse, IfOk, OnOk, OnErr};
 ghost use Rattle.lo_machine.specs.Replay.{Play, HasLine, Replays, Advances, moment_of};
 
 use crate::engine::Engine;

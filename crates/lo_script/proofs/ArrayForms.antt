@@ -1,5 +1,5 @@
 -- The forms on array variables are exact.
-use Rattle.std.proofs.Common.{[], ◌∷◌, refl}
+use Rattle.std.proofs.Common.{refl}
 use Rattle.std.specs.Prelude.{codes}
 use Rattle.std.specs.List.{AllByRecursion}
 use Rattle.lo_base.specs.declared.request.Request.TheVariants.{Array, Load, Set, Elem, Show}

@@ -1,11 +1,11 @@
 -- Lists that are read from tokens: what the reader found, and that spelled lists are read.
 use Rattle.std.proofs.Common.{◌≡◌, ℕ, ◌<◌, List, [], ◌∷◌, ◌++◌, length, map, Some, true, false, refl, sym, ap, subst, ◌∙◌, inl, inr, append_assoc, append-nil, arith}
 use Rattle.std.specs.Prelude.{◌≢◌, Option, bytes_eq, ◌||◌, Bool}
-use Rattle.std.specs.List.{AllByRecursion, list_any}
+use Rattle.std.specs.List.{AllByRecursion}
 use Rattle.std.proofs.lemmas.Slice.Eq.{bytes_eq-Decides}
 use Rattle.toast_plan.specs.Columns.{AreDistinct}
-use Rattle.lo_script.specs.Reader.{first_token, more_tokens, list_of_tokens}
-use Rattle.lo_script.specs.Reading.{Read, read_at, read_and}
+use Rattle.lo_script.specs.Reader.{more_tokens, list_of_tokens}
+use Rattle.lo_script.specs.Reading.{Read, read_at}
 use Rattle.lo_script.specs.SpelledValues.{SpellAll}
 use Rattle.lo_script.specs.Token.{TokenList, column_after}
 use Rattle.lo_script.specs.ValueToken.{is_among, if_new}

@@ -15,7 +15,7 @@ use Rattle.lo_machine.specs.Served.{IsServed}
 use Rattle.lo_machine.specs.Spelled.{bytes_limit}
 use Rattle.lo_script.specs.Form.{rollback_of, other_forms, large_object_forms, form_in, request_of}
 use Rattle.lo_script.specs.Reader.{Form, no_token, one_token, two_tokens}
-use Rattle.lo_script.specs.Reading.{Read, read_and}
+use Rattle.lo_script.specs.Reading.{Read}
 use Rattle.lo_script.specs.Script.{entry_of, request_by}
 use Rattle.lo_script.specs.SpelledValues.{IsLiteralInRange, IsChangeInRange, SpellAll, SpellsBytes, SpellsLiteral, SpellsColumn, SpellsStorage, SpellsChange}
 use Rattle.lo_script.specs.Spelling.{HasRanges, SpellRest, SpellsServed, HasSpelling, printed}

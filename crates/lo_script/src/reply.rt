@@ -1,6 +1,6 @@
 // Replies as lines, each by what is appended for one of its parts. How a reply is printed stands in specs/ReplyText.antt; a
 // new word or shape of a reply is one arm here and one clause there.
-ghost use Rattle.std.specs.Prelude.{◌≡◌, ◌≤◌, ◌++◌, length, codes, OnOk, OnErr};
+ghost use Rattle.std.specs.Prelude.{◌≡◌, ◌≤◌, ◌++◌, length, OnOk, OnErr};
 ghost use Rattle.std.specs.Fmt.{signed_decimal};
 ghost use Rattle.hex.specs.Hex.{encode_lower};
 ghost use Rattle.lo_base.specs.Appended.{AddsFront};

@@ -2,7 +2,7 @@
 // form.rt, tokens of values and of columns in value_token.rt. A new kind of token gets a method of `Token`, with the definition of
 // what it spells in specs/Token.antt or specs/ValueToken.antt.
 ghost use Rattle.std.specs.Prelude.{◌≡◌, ◌≢◌, ◌↔◌, IsTrue, ◌+◌, ◌<◌, ◌==◌, [], ◌∷◌};
-ghost use Rattle.std.specs.Prelude.{length, bytes_eq, IfOk, IfErr, OnOk, IfSome};
+ghost use Rattle.std.specs.Prelude.{length, bytes_eq, IfOk, IfErr, OnOk};
 ghost use Rattle.std.specs.List.{position};
 ghost use Rattle.lo_script.specs.Answer.{Reads};
 ghost use Rattle.lo_script.specs.Reading.{read_at};

@@ -9,7 +9,7 @@ use Rattle.lo_base.specs.declared.request.Request.TheVariants.{LoCreate, LoGet}
 use Rattle.lo_machine.specs.Program.{program_of}
 use Rattle.lo_machine.specs.Run.{IsWhole, next_line, end_of, replies_of, schedule_of}
 use Rattle.lo_script.specs.ReplyText.{lines_of}
-use Rattle.lo_script.specs.Script.{ScriptText, script_of, script_with}
+use Rattle.lo_script.specs.Script.{ScriptText, script_with}
 use Rattle.lo_tool.specs.Command.{RunScript, command_of}
 use Rattle.lo_tool.specs.ScriptFile.{RunsTo}
 use Rattle.lo_tool.specs.Texts.{line_about, bad_line_text, missing}

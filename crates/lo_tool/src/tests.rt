@@ -1,5 +1,4 @@
 //! Whole commands: words, one file, and what the two sinks took. What is to come is written by hand.
-ghost use Rattle.std.specs.Prelude.{◌≡◌, ◌≤◌, length, IfOk};
 
 mod arrays;
 mod descriptors;

@@ -99,7 +99,7 @@ fn ones(alloc: Global, count: usize) -> Result<String, AllocError> {
 }
 
 #[test]
-fn a_million_elements_are_read_set_and_shown(rt: HostRuntime) -> Result<(), Fail> {
+fn a_million_elements_are_read_set_shown_and_stored(rt: HostRuntime) -> Result<(), Fail> {
     let alloc = rt.alloc();
     let mut dialogue = Dialogue::new(alloc);
     let most = ones(alloc, MOST_ELEMENTS)?;
@@ -112,5 +112,9 @@ fn a_million_elements_are_read_set_and_shown(rt: HostRuntime) -> Result<(), Fail
     dialogue.add("A", &["set v 1048576 1"], "OK")?;
     dialogue.add("A", &["elem v 1048576"], "1")?;
     dialogue.add("A", &["show v"], most.as_str())?;
+    dialogue.add("A", &["create table t id:int8 v:int4[]"], "CREATE TABLE")?;
+    dialogue.add("A", &["insert t 1 @v"], "INSERT 1")?;
+    dialogue.add("A", &["load w t 1 v"], "OK")?;
+    dialogue.add("A", &["elem w 1048576"], "1")?;
     dialogue.check(&rt, alloc)
 }

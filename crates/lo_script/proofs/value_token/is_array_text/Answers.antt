@@ -1,4 +1,4 @@
-use Rattle.std.proofs.Common.{◌≢◌, length, refl, sym, ◌∙◌, arith, rules}
+use Rattle.std.proofs.Common.{◌≢◌, length, refl, rules}
 use Rattle.lo_script.proofs.ValueTokens.{array_text_tests}
 use Rattle.lo_script.proofs.value_token.is_array_text.Goals as goal
 

@@ -1,4 +1,3 @@
-use Rattle.lo_base.specs.declared.refusal.Denied.TheVariants.{By}
 use Rattle.row_tables.specs.CursorRules.{close_row}
 use Rattle.lo_machine.specs.Dispatch.{here_in}
 use Rattle.lo_machine.proofs.TableCalls.{call_refuses, call_reads, is_ready}

@@ -1,4 +1,3 @@
-use Rattle.std.proofs.Common.{w64, rules}
 use Rattle.row_tables.specs.RewriteRules.{rewrite_row}
 use Rattle.lo_machine.specs.Dispatch.{here_in}
 use Rattle.lo_machine.proofs.TableCalls.{call_err, call_ok, is_ready}
