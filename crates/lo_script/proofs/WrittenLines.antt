@@ -2,7 +2,7 @@
 use Rattle.std.proofs.Common.{◌≡◌, ◌≢◌, ℕ, ℤ, pos, negsuc, zero, suc, ◌+◌, ◌/◌, ◌%◌, ◌==◌, ◌&&◌, ◌≤◌, ◌<◌, not, true, false, Bool, List, [], ◌∷◌, ◌++◌, length, refl, sym, ap, ◌∙◌, Some, None, inl, inr, arith}
 use Rattle.std.specs.Prelude.{Option, Ok, ◌||◌, bytes_eq, codes, nat_lt, replicate, All}
 use Rattle.std.specs.Fmt.{decimal, signed_decimal, digits, digits_onto, digit_glyph}
-use Rattle.std.specs.List.{AllByRecursion, find, list_all, list_any, range_with_len, slice_split}
+use Rattle.std.specs.List.{AllByRecursion, find, list_all, list_any, range_with_len}
 use Rattle.std.specs.Str.Lines.{lines}
 use Rattle.std.proofs.lemmas.Bool.{false≢true}
 use Rattle.std.proofs.lemmas.Bool.Decides.{nat_tests}
@@ -26,8 +26,8 @@ use Rattle.lo_base.specs.declared.value.Literal.TheVariants.{Null, Number, Bytes
 use Rattle.lo_machine.specs.Served.{IsServed}
 use Rattle.lo_machine.specs.Spelled.{IsLiteral}
 use Rattle.lo_script.specs.Form.{request_of}
-use Rattle.lo_script.specs.Reading.{Reading, Read}
-use Rattle.lo_script.specs.Script.{HasText, is_request_line, entry_of, entry_in, script_of, with_entry, script_with}
+use Rattle.lo_script.specs.Reading.{Read}
+use Rattle.lo_script.specs.Script.{HasText, is_request_line, entry_of, script_of, with_entry, script_with}
 use Rattle.lo_script.specs.SpelledValues.{SpellAll, SpellsBytes, SpellsLiteral, SpellsChange, SpellsStorage, SpellsKind, SpellsWithStorage, SpellsColumn, element_text, storage_text}
 use Rattle.lo_script.specs.Spelling.{HasRanges, SpellsServed}
 use Rattle.lo_script.specs.Token.{TokenList, column_after, mark_of, session_of, tokens_of}
@@ -194,50 +194,47 @@ last-whole rest bytes spelled =
 
 -- The tokens of each request
 
-word : (token : List ℕ) → is_whole token ≡ true → IsWhole token
-word token h = by_test token h
-
 tokens-whole : (r : Request) (tokens : TokenList) → SpellsServed r tokens → AreWhole tokens
-tokens-whole Begin tokens h = rw (h.2.is, h.2.spell_rest) (word (codes "begin") refl, tt)
-tokens-whole Commit tokens h = rw (h.2.is, h.2.spell_rest) (word (codes "commit") refl, tt)
-tokens-whole Rollback tokens h = rw (h.2.is, h.2.spell_rest) (word (codes "rollback") refl, tt)
-tokens-whole (Savepoint name) tokens h = rw (h.2.is, h.2.spell_rest) (word (codes "savepoint") refl, (name-whole name h.0.1, tt))
-tokens-whole (Release name) tokens h = rw (h.2.is, h.2.spell_rest) (word (codes "release") refl, (name-whole name h.0.1, tt))
+tokens-whole Begin tokens h = rw (h.2.is, h.2.spell_rest) (by_test (codes "begin") refl, tt)
+tokens-whole Commit tokens h = rw (h.2.is, h.2.spell_rest) (by_test (codes "commit") refl, tt)
+tokens-whole Rollback tokens h = rw (h.2.is, h.2.spell_rest) (by_test (codes "rollback") refl, tt)
+tokens-whole (Savepoint name) tokens h = rw (h.2.is, h.2.spell_rest) (by_test (codes "savepoint") refl, (name-whole name h.0.1, tt))
+tokens-whole (Release name) tokens h = rw (h.2.is, h.2.spell_rest) (by_test (codes "release") refl, (name-whole name h.0.1, tt))
 tokens-whole (RollbackTo name) tokens h =
-    rw (h.2.is, h.2.spell_rest) (word (codes "rollback") refl, (word (codes "to") refl, (name-whole name h.0.1, tt)))
-tokens-whole Vacuum tokens h = rw (h.2.is, h.2.spell_rest) (word (codes "vacuum") refl, tt)
-tokens-whole (LoCreat mode) tokens h = rw (h.2.is, h.2.spell_rest) (word (codes "lo_creat") refl, (signed-whole mode, tt))
-tokens-whole (LoCreate oid) tokens h = rw (h.2.is, h.2.spell_rest) (word (codes "lo_create") refl, (decimal-whole oid, tt))
+    rw (h.2.is, h.2.spell_rest) (by_test (codes "rollback") refl, (by_test (codes "to") refl, (name-whole name h.0.1, tt)))
+tokens-whole Vacuum tokens h = rw (h.2.is, h.2.spell_rest) (by_test (codes "vacuum") refl, tt)
+tokens-whole (LoCreat mode) tokens h = rw (h.2.is, h.2.spell_rest) (by_test (codes "lo_creat") refl, (signed-whole mode, tt))
+tokens-whole (LoCreate oid) tokens h = rw (h.2.is, h.2.spell_rest) (by_test (codes "lo_create") refl, (decimal-whole oid, tt))
 tokens-whole (LoOpen oid mode) tokens h =
-    rw (h.2.is, h.2.spell_rest) (word (codes "lo_open") refl, (decimal-whole oid, (signed-whole mode, tt)))
-tokens-whole (LoUnlink oid) tokens h = rw (h.2.is, h.2.spell_rest) (word (codes "lo_unlink") refl, (decimal-whole oid, tt))
-tokens-whole (LoGet oid from None) tokens h = rw (h.2.is, h.2.spell_rest) (word (codes "lo_get") refl, (decimal-whole oid, tt))
+    rw (h.2.is, h.2.spell_rest) (by_test (codes "lo_open") refl, (decimal-whole oid, (signed-whole mode, tt)))
+tokens-whole (LoUnlink oid) tokens h = rw (h.2.is, h.2.spell_rest) (by_test (codes "lo_unlink") refl, (decimal-whole oid, tt))
+tokens-whole (LoGet oid from None) tokens h = rw (h.2.is, h.2.spell_rest) (by_test (codes "lo_get") refl, (decimal-whole oid, tt))
 tokens-whole (LoGet oid from (Some count)) tokens h =
-    rw (h.2.is, h.2.spell_rest) (word (codes "lo_get") refl, (decimal-whole oid, (signed-whole from, (signed-whole count, tt))))
+    rw (h.2.is, h.2.spell_rest) (by_test (codes "lo_get") refl, (decimal-whole oid, (signed-whole from, (signed-whole count, tt))))
 tokens-whole (LoPut oid at bytes) tokens h =
-    rw h.2.is (word (codes "lo_put") refl, (decimal-whole oid, (signed-whole at, last-whole h.2.rest bytes h.2.spell_rest)))
+    rw h.2.is (by_test (codes "lo_put") refl, (decimal-whole oid, (signed-whole at, last-whole h.2.rest bytes h.2.spell_rest)))
 tokens-whole (LoFromBytea oid bytes) tokens h =
-    rw h.2.is (word (codes "lo_from_bytea") refl, (decimal-whole oid, last-whole h.2.rest bytes h.2.spell_rest))
-tokens-whole (LoClose fd) tokens h = rw (h.2.is, h.2.spell_rest) (word (codes "lo_close") refl, (signed-whole fd, tt))
+    rw h.2.is (by_test (codes "lo_from_bytea") refl, (decimal-whole oid, last-whole h.2.rest bytes h.2.spell_rest))
+tokens-whole (LoClose fd) tokens h = rw (h.2.is, h.2.spell_rest) (by_test (codes "lo_close") refl, (signed-whole fd, tt))
 tokens-whole (LoRead fd count) tokens h =
-    rw (h.2.is, h.2.spell_rest) (word (codes "lo_read") refl, (signed-whole fd, (signed-whole count, tt)))
+    rw (h.2.is, h.2.spell_rest) (by_test (codes "lo_read") refl, (signed-whole fd, (signed-whole count, tt)))
 tokens-whole (LoWrite fd bytes) tokens h =
-    rw h.2.is (word (codes "lo_write") refl, (signed-whole fd, last-whole h.2.rest bytes h.2.spell_rest))
+    rw h.2.is (by_test (codes "lo_write") refl, (signed-whole fd, last-whole h.2.rest bytes h.2.spell_rest))
 tokens-whole (LoLseek fd offset whence) tokens h =
-    rw (h.2.is, h.2.spell_rest) (word (codes "lo_lseek") refl, (signed-whole fd, (signed-whole offset, (signed-whole whence, tt))))
+    rw (h.2.is, h.2.spell_rest) (by_test (codes "lo_lseek") refl, (signed-whole fd, (signed-whole offset, (signed-whole whence, tt))))
 tokens-whole (LoLseek64 fd offset whence) tokens h =
-    rw (h.2.is, h.2.spell_rest) (word (codes "lo_lseek64") refl, (signed-whole fd, (signed-whole offset, (signed-whole whence, tt))))
-tokens-whole (LoTell fd) tokens h = rw (h.2.is, h.2.spell_rest) (word (codes "lo_tell") refl, (signed-whole fd, tt))
-tokens-whole (LoTell64 fd) tokens h = rw (h.2.is, h.2.spell_rest) (word (codes "lo_tell64") refl, (signed-whole fd, tt))
+    rw (h.2.is, h.2.spell_rest) (by_test (codes "lo_lseek64") refl, (signed-whole fd, (signed-whole offset, (signed-whole whence, tt))))
+tokens-whole (LoTell fd) tokens h = rw (h.2.is, h.2.spell_rest) (by_test (codes "lo_tell") refl, (signed-whole fd, tt))
+tokens-whole (LoTell64 fd) tokens h = rw (h.2.is, h.2.spell_rest) (by_test (codes "lo_tell64") refl, (signed-whole fd, tt))
 tokens-whole (LoTruncate fd size) tokens h =
-    rw (h.2.is, h.2.spell_rest) (word (codes "lo_truncate") refl, (signed-whole fd, (signed-whole size, tt)))
+    rw (h.2.is, h.2.spell_rest) (by_test (codes "lo_truncate") refl, (signed-whole fd, (signed-whole size, tt)))
 tokens-whole (LoTruncate64 fd size) tokens h =
-    rw (h.2.is, h.2.spell_rest) (word (codes "lo_truncate64") refl, (signed-whole fd, (signed-whole size, tt)))
+    rw (h.2.is, h.2.spell_rest) (by_test (codes "lo_truncate64") refl, (signed-whole fd, (signed-whole size, tt)))
 tokens-whole (CreateTable name columns) tokens h =
     rw h.2.is (
-      word (codes "create") refl,
+      by_test (codes "create") refl,
       (
-        word (codes "table") refl,
+        by_test (codes "table") refl,
         (
           name-whole name h.0.1.0,
           items-whole SpellsColumn (λ (c : Column). IsName c.name) column-whole h.2.rest columns h.2.spell_rest h.0.1.1.named,
@@ -246,12 +243,12 @@ tokens-whole (CreateTable name columns) tokens h =
     )
 tokens-whole (Insert table values) tokens h =
     rw h.2.is (
-      word (codes "insert") refl,
+      by_test (codes "insert") refl,
       (name-whole table h.0.1.0, items-whole SpellsLiteral IsLiteral literal-whole h.2.rest values h.2.spell_rest h.0.1.2),
     )
 tokens-whole (Update table id changes) tokens h =
     rw h.2.is (
-      word (codes "update") refl,
+      by_test (codes "update") refl,
       (
         name-whole table h.0.1.0,
         (
@@ -262,45 +259,45 @@ tokens-whole (Update table id changes) tokens h =
     )
 tokens-whole (Rewrite table storages) tokens h =
     rw h.2.is (
-      word (codes "rewrite") refl,
+      by_test (codes "rewrite") refl,
       (
         name-whole table h.0.1.0,
         items-whole SpellsStorage (λ (c : Column). IsName c.name × (c.kind ≡ types.Bytea)) storage_column-whole h.2.rest storages h.2.spell_rest h.0.1.1.1,
       ),
     )
 tokens-whole (Delete table id) tokens h =
-    rw (h.2.is, h.2.spell_rest) (word (codes "delete") refl, (name-whole table h.0.1, (signed-whole id, tt)))
+    rw (h.2.is, h.2.spell_rest) (by_test (codes "delete") refl, (name-whole table h.0.1, (signed-whole id, tt)))
 tokens-whole (Get table id) tokens h =
-    rw (h.2.is, h.2.spell_rest) (word (codes "get") refl, (name-whole table h.0.1, (signed-whole id, tt)))
-tokens-whole (Ids table) tokens h = rw (h.2.is, h.2.spell_rest) (word (codes "ids") refl, (name-whole table h.0.1, tt))
+    rw (h.2.is, h.2.spell_rest) (by_test (codes "get") refl, (name-whole table h.0.1, (signed-whole id, tt)))
+tokens-whole (Ids table) tokens h = rw (h.2.is, h.2.spell_rest) (by_test (codes "ids") refl, (name-whole table h.0.1, tt))
 tokens-whole (Slice table id column from count) tokens h =
     rw (h.2.is, h.2.spell_rest) (
-      word (codes "slice") refl,
+      by_test (codes "slice") refl,
       (name-whole table h.0.1.0, (signed-whole id, (name-whole column h.0.1.1, (signed-whole from, (signed-whole count, tt))))),
     )
 tokens-whole (Declare cursor table id) tokens h =
     rw (h.2.is, h.2.spell_rest) (
-      word (codes "declare") refl,
+      by_test (codes "declare") refl,
       (name-whole cursor h.0.1.0, (name-whole table h.0.1.1, (signed-whole id, tt))),
     )
 tokens-whole (Fetch cursor column from count) tokens h =
     rw (h.2.is, h.2.spell_rest) (
-      word (codes "fetch") refl,
+      by_test (codes "fetch") refl,
       (name-whole cursor h.0.1.0, (name-whole column h.0.1.1, (signed-whole from, (signed-whole count, tt)))),
     )
-tokens-whole (Close cursor) tokens h = rw (h.2.is, h.2.spell_rest) (word (codes "close") refl, (name-whole cursor h.0.1, tt))
+tokens-whole (Close cursor) tokens h = rw (h.2.is, h.2.spell_rest) (by_test (codes "close") refl, (name-whole cursor h.0.1, tt))
 tokens-whole (Array name text) tokens h =
-    rw (h.2.is, h.2.spell_rest) (word (codes "array") refl, (name-whole name h.0.1.0, (text-whole text h.0.1.1.1, tt)))
+    rw (h.2.is, h.2.spell_rest) (by_test (codes "array") refl, (name-whole name h.0.1.0, (text-whole text h.0.1.1.1, tt)))
 tokens-whole (Load name table id column) tokens h =
     rw (h.2.is, h.2.spell_rest) (
-      word (codes "load") refl,
+      by_test (codes "load") refl,
       (name-whole name h.0.1.0, (name-whole table h.0.1.1, (signed-whole id, (name-whole column h.0.1.2, tt)))),
     )
 tokens-whole (Set name sub element) tokens h =
-    rw (h.2.is, h.2.spell_rest) (word (codes "set") refl, (name-whole name h.0.1, (signed-whole sub, (element-whole element, tt))))
+    rw (h.2.is, h.2.spell_rest) (by_test (codes "set") refl, (name-whole name h.0.1, (signed-whole sub, (element-whole element, tt))))
 tokens-whole (Elem name sub) tokens h =
-    rw (h.2.is, h.2.spell_rest) (word (codes "elem") refl, (name-whole name h.0.1, (signed-whole sub, tt)))
-tokens-whole (Show name) tokens h = rw (h.2.is, h.2.spell_rest) (word (codes "show") refl, (name-whole name h.0.1, tt))
+    rw (h.2.is, h.2.spell_rest) (by_test (codes "elem") refl, (name-whole name h.0.1, (signed-whole sub, tt)))
+tokens-whole (Show name) tokens h = rw (h.2.is, h.2.spell_rest) (by_test (codes "show") refl, (name-whole name h.0.1, tt))
 tokens-whole other tokens h = absurd (false≢true h.0.0)
 
 -- Lines: tokens joined by spaces
