@@ -1,5 +1,5 @@
 -- The law for a cell: alternatives by its tag, and by the column's type.
-use Rattle.std.proofs.Common.{◌≡◌, ◌≢◌, ℕ, ℤ, zero, suc, ◌+◌, ◌-◌, ◌^◌, ◌<◌, ◌≤◌, Bool, true, false, cond, ◌&&◌, ◌||◌, not, leb, eqb, List, [], ◌∷◌, ◌++◌, length, Result, Ok, Err, Option, Some, None, Fits, refl, sym, ap, subst, ◌∙◌, append-nil, arith, inl, inr}
+use Rattle.std.proofs.Common.{◌≡◌, ◌≢◌, ℕ, ℤ, zero, suc, ◌+◌, ◌-◌, ◌^◌, ◌<◌, ◌≤◌, Bool, true, false, cond, ◌&&◌, ◌||◌, not, leb, eqb, List, [], ◌∷◌, ◌++◌, length, Ok, Option, Some, None, Fits, refl, sym, ap, subst, ◌∙◌, arith, inl, inr}
 use Rattle.std.specs.Int.{w32, w64, to_le_bytes, cast_signed, cast_unsigned}
 use Rattle.std.specs.Int.RustNames.{FitsSigned}
 use Rattle.std.proofs.lemmas.Bool.Decides.{nat_tests}
@@ -20,11 +20,10 @@ use Rattle.expanded_array.specs.Layout.{is_flat_layout}
 use Rattle.expanded_array.proofs.FlatLaws.{flat_laid_out, laid_out_is_flat}
 use Rattle.lo_image.specs.declared.fault.Defect.{Defect}
 use Rattle.lo_image.specs.declared.fault.Defect.TheVariants.{Mismatch, Range, Array}
-use Rattle.lo_image.specs.declared.fault.Fault.{Fault}
-use Rattle.lo_image.specs.Opening.{IsArrayIfThere}
+use Rattle.lo_opening.specs.Opening.{IsArrayIfThere}
 use Rattle.lo_image.specs.Readers.{piece, number, tested, fixed, fixed_piece, behind, both, made}
-use Rattle.lo_image.specs.Reading.{byte_at, int_at, is_plain, tag_defect, length_defect, raw_defect, null_at, inline_of, bytes_at, inline_at, outside_of_raw, outside_at, payload_at, second, tagged_at, is_array_kind, array_defect, cell_defect, cell_at}
-use Rattle.lo_image.proofs.ReaderLaws.{IsBytes, ok_is, Reads, Judges, Same, wide32, wide64, number_reads, piece_reads, fixed_piece_is, tested_reads, behind_reads, fixed_reads, both_reads, made_reads, same_reads}
+use Rattle.lo_image.specs.Reading.{byte_at, int_at, is_plain, tag_defect, length_defect, raw_defect, null_at, inline_of, bytes_at, inline_at, outside_of_raw, outside_at, payload_at, second, tagged_at, array_defect, cell_defect, cell_at}
+use Rattle.lo_image.proofs.ReaderLaws.{IsBytes, ok_is, Reads, Judges, wide32, wide64, number_reads, piece_reads, fixed_piece_is, tested_reads, behind_reads, fixed_reads, both_reads, made_reads, same_reads}
 use Rattle.lo_image.proofs.ListLaws.{AreSmall, bytes_of_small, AreLong, bytes_read}
 use Rattle.lo_image.proofs.ColumnLaws.{byte_reads}
 

@@ -1,16 +1,15 @@
 -- The law for a value in chunks.
-use Rattle.std.proofs.Common.{◌≡◌, ℕ, zero, suc, ◌+◌, ◌-◌, ◌*◌, ◌/◌, ◌^◌, ◌<◌, ◌≤◌, min, List, [], ◌∷◌, ◌++◌, length, take, drop, Result, Ok, Err, refl, sym, ap, subst, ◌∙◌, append_assoc, append-nil, arith, inl, inr}
+use Rattle.std.proofs.Common.{◌≡◌, ℕ, zero, suc, ◌+◌, ◌-◌, ◌*◌, ◌^◌, ◌<◌, ◌≤◌, min, List, [], ◌∷◌, ◌++◌, length, take, drop, refl, sym, ap, subst, ◌∙◌, append-nil, arith, inl, inr}
 use Rattle.std.specs.Int.{w16, w32, to_le_bytes}
 use Rattle.std.proofs.lemmas.List.{take_at, drop_at, take-append-drop, length-append, length-take, length-drop, nil_from_length}
 use Rattle.std.proofs.lemmas.Bool.{cases_lt}
 use Rattle.lo_model.specs.Held.{chunk_bytes, pieces}
 use Rattle.lo_image.specs.declared.fault.Defect.TheVariants.{Mismatch}
-use Rattle.lo_image.specs.declared.fault.Fault.{Fault}
 use Rattle.lo_image.specs.declared.place.ChunkPlace.{ChunkPlace}
 use Rattle.lo_image.specs.Image.{chunk_form, chunks_form, value_form}
-use Rattle.lo_image.specs.Readers.{piece, fixed, behind, made, many}
+use Rattle.lo_image.specs.Readers.{piece, fixed, behind, many}
 use Rattle.lo_image.specs.Reading.{chunk_at, after_chunk, joined_pieces, value_at}
-use Rattle.lo_image.proofs.ReaderLaws.{IsBytes, Reads, Same, wide16, wide32, fixed_reads, made_reads, joined, AllFrom, AreRead, many_reads}
+use Rattle.lo_image.proofs.ReaderLaws.{IsBytes, Reads, wide16, wide32, fixed_reads, made_reads, joined, AllFrom, AreRead, many_reads}
 use Rattle.lo_image.proofs.ListLaws.{AreSmall, bytes_of_small, AreLong, bytes_read}
 use Rattle.toast_plan.proofs.Pieces.{small_bytes}
 use Rattle.lo_image.proofs.ReaderLaws.{IsBytes-take, IsBytes-drop}

@@ -1,5 +1,5 @@
 -- The laws for names and for the columns of a table.
-use Rattle.std.proofs.Common.{◌≡◌, ◌≢◌, ℕ, zero, suc, ◌+◌, ◌<◌, ◌≤◌, Bool, true, false, cond, ◌&&◌, ◌||◌, not, ltb, leb, eqb, List, [], ◌∷◌, ◌++◌, length, map, take, drop, All, Option, Some, None, Result, Ok, Err, refl, sym, ap, subst, ◌∙◌, append_assoc, arith, inl, inr}
+use Rattle.std.proofs.Common.{◌≡◌, ◌≢◌, ℕ, zero, suc, ◌+◌, ◌<◌, ◌≤◌, Bool, true, false, cond, ◌&&◌, ◌||◌, not, ltb, leb, eqb, List, [], ◌∷◌, ◌++◌, length, map, Option, Some, None, Result, Ok, refl, sym, ap, subst, ◌∙◌, append_assoc, arith, inl, inr}
 use Rattle.std.specs.Prelude.{bytes_eq, codes, IsTrue}
 use Rattle.std.specs.List.{list_all, AllByRecursion}
 use Rattle.std.specs.declared.cmp.Ordering.{Ordering}
@@ -7,9 +7,9 @@ use Rattle.std.specs.declared.cmp.Ordering.TheVariants as orders
 use Rattle.std.specs.Ordering.{nat_cmp}
 use Rattle.std.specs.Cmp.Lexicographic.{slice_cmp}
 use Rattle.std.proofs.lemmas.Bool.Decides.{nat_tests}
-use Rattle.std.proofs.lemmas.Bool.{and_parts, and_from, cases_Bool, leb-true, le-leb, ltb-false, le-ltb, or_cases}
+use Rattle.std.proofs.lemmas.Bool.{and_parts, and_from, cases_Bool, leb-true, le-leb, le-ltb}
 use Rattle.std.proofs.lemmas.Slice.Eq.{bytes_eq-Decides}
-use Rattle.std.proofs.lemmas.List.{length-append, append-nil}
+use Rattle.std.proofs.lemmas.List.{length-append}
 use Rattle.std.proofs.lemmas.List.Elements.{All-from_recursion, recursion_from_All}
 use Rattle.lo_base.specs.Name.{IsName, starts_name, continues_name}
 use Rattle.lo_base.specs.declared.column.Column.{Column}
@@ -21,11 +21,11 @@ use Rattle.toast_plan.specs.Columns.{AreDistinct, StartsWithId, IsPlainIfFixed, 
 use Rattle.lo_image.specs.declared.fault.Defect.{Defect}
 use Rattle.lo_image.specs.declared.fault.Defect.TheVariants.{Short, Range, Order}
 use Rattle.lo_image.specs.declared.fault.Fault.{Fault}
-use Rattle.lo_image.specs.Opening.{NameFollows}
+use Rattle.lo_opening.specs.Opening.{NameFollows}
 use Rattle.lo_image.specs.Image.{name_form, type_code, storage_code, column_form, columns_form}
-use Rattle.lo_image.specs.Readers.{◌>>=◌, fails, piece, tested, both, made, many}
+use Rattle.lo_image.specs.Readers.{fails, piece, tested, both, many}
 use Rattle.lo_image.specs.Reading.{byte_at, counted_at, is_name, is_less, name_follows, table_name_defect, has_name, new_name_defect, column_name_defect, most_kind, kind_defect, kind_of, is_fixed, storage_defect, storage_of, kind_at, storage_at, column_of, column_at, after_column, columns_defect, columns_at}
-use Rattle.lo_image.proofs.ReaderLaws.{IsBytes, IsBytes-behind, bound, ok_is, Reads, Judges, Same, piece_takes, piece_again, tested_reads, both_reads, made_reads, same_reads, joined, AllFrom, AreRead, many_reads}
+use Rattle.lo_image.proofs.ReaderLaws.{IsBytes, ok_is, Reads, Judges, piece_takes, piece_again, tested_reads, both_reads, made_reads, same_reads, joined, AllFrom, AreRead, many_reads}
 
 -- ---- bytes
 

@@ -1,26 +1,24 @@
 -- The law for an image, up to all of its bytes.
-use Rattle.std.proofs.Common.{◌≡◌, ℕ, ℤ, zero, suc, ◌+◌, ◌-◌, ◌^◌, ◌<◌, ◌≤◌, Bool, true, false, cond, ◌&&◌, ltb, leb, eqb, List, [], ◌∷◌, ◌++◌, length, drop, Option, Some, None, Result, Ok, Err, refl, sym, ap, subst, ◌∙◌, append_assoc, append-nil, arith, inl, inr}
+use Rattle.std.proofs.Common.{◌≡◌, ℕ, ℤ, ◌+◌, ◌^◌, ◌<◌, ◌≤◌, cond, eqb, List, [], ◌∷◌, ◌++◌, length, drop, Option, None, Result, Ok, Err, refl, sym, ap, subst, ◌∙◌, append_assoc, append-nil, arith}
 use Rattle.std.specs.Int.{w16, w32, w64, to_le_bytes}
-use Rattle.std.specs.List.{AllByRecursion}
 use Rattle.std.proofs.lemmas.Bool.Decides.{nat_tests}
 use Rattle.std.proofs.lemmas.Bool.{eqb-true}
 use Rattle.std.proofs.lemmas.List.{nil_from_length}
 use Rattle.lo_base.specs.declared.column.Column.{Column}
 use Rattle.lo_base.specs.declared.value.Cell.{Cell}
 use Rattle.lo_base.specs.declared.value.Cell.TheVariants as cells
-use Rattle.lo_image.specs.declared.fault.Defect.{Defect}
-use Rattle.lo_image.specs.declared.fault.Defect.TheVariants.{Magic, Mismatch, Range, Extra}
+use Rattle.lo_image.specs.declared.fault.Defect.TheVariants.{Magic, Extra}
 use Rattle.lo_image.specs.declared.fault.Fault.{Fault}
 use Rattle.lo_image.specs.declared.fault.ImageError.{ImageError}
-use Rattle.lo_image.specs.declared.opening.ObjectData.{ObjectData}
-use Rattle.lo_image.specs.declared.opening.TableData.{TableData}
+use Rattle.lo_opening.specs.declared.opening.ObjectData.{ObjectData}
+use Rattle.lo_opening.specs.declared.opening.TableData.{TableData}
 use Rattle.lo_image.specs.declared.place.TableCells.{TableCells}
 use Rattle.lo_image.specs.declared.place.RowPlace.{RowPlace}
-use Rattle.lo_image.specs.Opening.{OpeningData, IsOpening, AreObjects, tables_chunks}
+use Rattle.lo_opening.specs.Opening.{OpeningData, IsOpening, AreObjects, tables_chunks}
 use Rattle.lo_image.specs.Image.{magic, tables_form, tables_chunks_form, objects_form, image_head, image}
 use Rattle.lo_image.specs.Readers.{number, tested, fixed_piece, fails, behind, both, made}
-use Rattle.lo_image.specs.Reading.{blocks_defect, counter_defect, tables_defect, tables_at, chunks_defect, chunks_in_tables, tables_values_at, objects_at, TablePlace, after_table, after_cell, after_cells, after_row, Behind, behind_tables, Parts, opening_of, opening_at, image_at, placed, Answers}
-use Rattle.lo_image.proofs.ReaderLaws.{Reads, Judges, Same, wide16, wide32, wide64, number_reads, fixed_piece_is, tested_reads, behind_reads, both_reads, made_reads, same_reads, IsBytes, bound, guard_same, ok_is, AllFrom}
+use Rattle.lo_image.specs.Reading.{blocks_defect, counter_defect, tables_defect, tables_at, chunks_defect, chunks_in_tables, tables_values_at, objects_at, TablePlace, after_table, after_cell, after_row, Behind, behind_tables, Parts, opening_of, opening_at, image_at, placed, Answers}
+use Rattle.lo_image.proofs.ReaderLaws.{Reads, Judges, Same, wide32, wide64, number_reads, fixed_piece_is, tested_reads, behind_reads, both_reads, made_reads, IsBytes, bound, guard_same, ok_is}
 use Rattle.lo_image.proofs.ObjectLaws.{AreListed, objects_reads}
 use Rattle.lo_image.proofs.CellLaws.{IsCellAt}
 use Rattle.lo_image.proofs.RowLaws.{IsIdAt, AreCells, AreRowCellsAt, AreRowsAt}

@@ -1,6 +1,5 @@
 -- What is left to be written behind one item more.
-use Rattle.std.proofs.Common.{◌≡◌, ℕ, zero, suc, ◌+◌, ◌-◌, ◌≤◌, ◌<◌, ◌^◌, Bool, true, false, List, [], ◌∷◌, ◌++◌, length, take, drop, get_or, min, refl, sym, ap, subst, ◌∙◌, add-one, inl, inr, arith}
-use Rattle.std.specs.Prelude.{if◌then◌else◌}
+use Rattle.std.proofs.Common.{◌≡◌, ℕ, suc, ◌+◌, ◌-◌, ◌≤◌, ◌<◌, ◌^◌, Bool, true, false, List, [], ◌∷◌, ◌++◌, length, take, drop, get_or, min, refl, sym, ap, subst, ◌∙◌, add-one, inl, inr, arith}
 use Rattle.std.specs.Int.{from_bool}
 use Rattle.std.proofs.lemmas.Bool.{cases_eq}
 use Rattle.std.proofs.Math.Seq.{drop-cons}
@@ -9,8 +8,8 @@ use Rattle.lo_base.specs.declared.value.Value.{Value}
 use Rattle.lo_base.specs.declared.value.Value.TheVariants as values
 use Rattle.lo_model.specs.Held.{chunk_bytes}
 use Rattle.toast_plan.specs.Row.{count_outside, field_of, fields_of, row_form, planned_fields}
-use Rattle.lo_image.specs.declared.opening.TableData.{TableData}
-use Rattle.lo_image.specs.Opening.{marks_of, row_outside, rows_outside, marked_chunks, rows_chunks, tables_chunks}
+use Rattle.lo_opening.specs.declared.opening.TableData.{TableData}
+use Rattle.lo_opening.specs.Opening.{marks_of, row_outside, rows_outside, marked_chunks, rows_chunks, tables_chunks}
 use Rattle.lo_image.specs.Image.{rows_form, table_form, tables_form, chunk_form, chunks_form, marked_form, next_number, row_chunks_form, rows_chunks_form, tables_chunks_form}
 use Rattle.lo_image.specs.Writing.{IsNumberedRow, AreNumberedRows, IsNumberedTable, AreNumberedTables}
 use Rattle.lo_image.proofs.Loop.{item_at, nothing_left}

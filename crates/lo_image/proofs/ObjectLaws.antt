@@ -1,20 +1,17 @@
 -- The law for objects and their stored blocks.
-use Rattle.std.proofs.Common.{◌≡◌, ℕ, ℤ, zero, suc, ◌+◌, ◌-◌, ◌*◌, ◌/◌, ◌^◌, ◌<◌, ◌≤◌, min, Bool, true, false, cond, ◌&&◌, ltb, leb, eqb, List, [], ◌∷◌, ◌++◌, length, Option, Some, None, Result, Ok, Err, refl, sym, ap, subst, ◌∙◌, arith, inl, inr}
+use Rattle.std.proofs.Common.{◌≡◌, ℕ, ◌+◌, ◌-◌, ◌*◌, ◌^◌, ◌<◌, ◌≤◌, true, false, cond, ◌&&◌, ltb, eqb, List, [], ◌∷◌, ◌++◌, length, Some, None, refl, sym, ap, arith, inl, inr}
 use Rattle.std.specs.Int.{w16, w32, w64, to_le_bytes}
 use Rattle.std.proofs.lemmas.Bool.Decides.{nat_tests}
-use Rattle.std.proofs.lemmas.Bool.{cases_Bool, eqb-true}
-use Rattle.std.proofs.lemmas.List.{append-nil, nil_from_length}
-use Rattle.lo_image.specs.declared.fault.Defect.{Defect}
-use Rattle.lo_image.specs.declared.fault.Defect.TheVariants.{Magic, Mismatch, Range, Order, Extra}
-use Rattle.lo_image.specs.declared.fault.Fault.{Fault}
+use Rattle.std.proofs.lemmas.Bool.{cases_Bool}
+use Rattle.lo_image.specs.declared.fault.Defect.TheVariants.{Mismatch, Range}
 use Rattle.lo_image.specs.declared.place.BlockPlace.{BlockPlace}
 use Rattle.lo_image.specs.declared.place.ObjectPlace.{ObjectPlace}
-use Rattle.lo_image.specs.declared.opening.ObjectData.{ObjectData}
-use Rattle.lo_image.specs.Opening.{block_length, blocks_below, all_zero, IsBlock, AreBlocks, has_tail, blocks_held, IsObject, AreObjects}
+use Rattle.lo_opening.specs.declared.opening.ObjectData.{ObjectData}
+use Rattle.lo_opening.specs.Opening.{block_length, blocks_below, all_zero, IsBlock, AreBlocks, has_tail, IsObject, AreObjects}
 use Rattle.lo_image.specs.Image.{block_form, blocks_form, object_head, object_form, objects_form}
-use Rattle.lo_image.specs.Readers.{number, piece, tested, fixed, fixed_piece, fails, behind, both, made, many}
+use Rattle.lo_image.specs.Readers.{number, piece, tested, fixed, behind, both}
 use Rattle.lo_image.specs.Reading.{block_defect, zero_defect, block_at, after_block, blocks_at, oid_defect, size_defect, count_defect, object_of, object_at, after_object, objects_at}
-use Rattle.lo_image.proofs.ReaderLaws.{Reads, IsFixed, Judges, Same, wide16, wide32, wide64, number_reads, piece_reads, fixed_is, fixed_piece_is, tested_reads, behind_reads, both_reads, made_reads, same_reads, IsBytes, bound, guard_same, ok_is, joined, AllFrom, AreRead, many_reads}
+use Rattle.lo_image.proofs.ReaderLaws.{Reads, Judges, Same, wide16, wide32, wide64, number_reads, piece_reads, fixed_is, tested_reads, behind_reads, both_reads, made_reads, same_reads, joined, AllFrom, AreRead, many_reads}
 
 -- ---- a block
 

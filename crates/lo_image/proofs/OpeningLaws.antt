@@ -1,26 +1,22 @@
 -- Tables as they are read, with the values outside that are read behind them, are tables with all their values.
-use Rattle.std.proofs.Common.{◌≡◌, ℕ, ℤ, zero, suc, ◌+◌, ◌≤◌, ◌<◌, ◌^◌, List, [], ◌∷◌, ◌++◌, length, map, Option, Some, None, refl, sym, ap, subst, ◌∙◌, append_assoc, append-nil, arith}
+use Rattle.std.proofs.Common.{◌≡◌, ℕ, ℤ, suc, ◌+◌, ◌≤◌, ◌<◌, ◌^◌, List, [], ◌∷◌, ◌++◌, length, Option, Some, None, refl, sym, ap, subst, ◌∙◌, arith}
 use Rattle.std.specs.Int.{w64, to_le_bytes}
-use Rattle.std.specs.List.{AllByRecursion}
 use Rattle.lo_base.specs.declared.column.Column.{Column}
 use Rattle.lo_base.specs.declared.value.Value.{Value}
 use Rattle.lo_base.specs.declared.value.Cell.{Cell}
 use Rattle.lo_base.specs.Name.{IsName}
 use Rattle.toast_plan.specs.Columns.{IsTableColumns}
 use Rattle.toast_plan.specs.Row.{row_form, planned_fields}
-use Rattle.lo_image.specs.declared.opening.TableData.{TableData}
+use Rattle.lo_opening.specs.declared.opening.TableData.{TableData}
 use Rattle.lo_image.specs.declared.place.RowPlace.{RowPlace}
 use Rattle.lo_image.specs.declared.place.TableCells.{TableCells}
-use Rattle.lo_image.specs.Opening.{marks_of, row_outside, rows_outside, marked_chunks, rows_chunks, tables_chunks, id_of, id_follows, IsRowAt, AreRows, NameFollows, IsTableAt, AreTables}
+use Rattle.lo_opening.specs.Opening.{marks_of, row_outside, rows_outside, marked_chunks, rows_chunks, tables_chunks, id_of, AreRows, NameFollows, AreTables}
 use Rattle.lo_image.specs.Image.{name_form, columns_form, rows_form, table_form, tables_form, row_chunks_form, rows_chunks_form, tables_chunks_form}
-use Rattle.lo_image.specs.Reading.{after_cells, id_in, after_row, after_rows, TablePlace, after_table, chunks_in_row, chunks_in_rows, chunks_in_tables, same_columns, no_state, with_rows}
-use Rattle.lo_image.proofs.ReaderLaws.{AllFrom}
-use Rattle.lo_image.proofs.ListLaws.{EachIs, each_form}
-use Rattle.lo_image.proofs.ColumnLaws.{TableName}
-use Rattle.lo_image.proofs.RowLaws.{cells_form, IsRowCells, all_cells_form, AreRowsAt, first_row}
-use Rattle.lo_image.proofs.TableLaws.{table_cells_form, IsTableCells, tables_cells_form, AreTablesAt, first_table}
-use Rattle.lo_image.proofs.ValueLaws.{AreKnown, AreRowValuesOf, row_behind, AreAllKnown, AreRowsOf, rows_behind, IsTableOf, table_behind, AreTablesKnown, AreTablesOf, tables_behind}
-use Rattle.lo_image.proofs.RowParts.{IsShown, cells_of_row, row_from, IsRowOf, row_of_cells}
+use Rattle.lo_image.specs.Reading.{after_cells, id_in, after_rows, TablePlace, chunks_in_rows, chunks_in_tables}
+use Rattle.lo_image.proofs.RowLaws.{all_cells_form, AreRowsAt}
+use Rattle.lo_image.proofs.TableLaws.{table_cells_form, tables_cells_form, AreTablesAt}
+use Rattle.lo_image.proofs.ValueLaws.{AreAllKnown, AreRowsOf, rows_behind, AreTablesKnown, AreTablesOf, tables_behind}
+use Rattle.lo_image.proofs.RowParts.{IsShown, cells_of_row, row_from, row_of_cells}
 
 -- ---- rows
 

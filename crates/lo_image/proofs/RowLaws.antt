@@ -1,10 +1,10 @@
 -- The laws for a row of cells, and for the rows of a table.
-use Rattle.std.proofs.Common.{◌≡◌, ℕ, ℤ, zero, suc, ◌+◌, ◌-◌, ◌≤◌, ◌<◌, ◌^◌, Bool, true, false, not, ◌&&◌, cond, leb, List, [], ◌∷◌, ◌++◌, length, map, drop, Option, Some, None, Result, Ok, Err, refl, sym, ap, subst, ◌∙◌, arith, inl, inr}
-use Rattle.std.specs.Prelude.{IsTrue, pos, bytes_eq}
+use Rattle.std.proofs.Common.{◌≡◌, ℕ, ℤ, suc, ◌+◌, ◌≤◌, Bool, true, false, cond, leb, List, [], ◌∷◌, ◌++◌, length, map, drop, Option, Some, None, Ok, Err, refl, ap}
+use Rattle.std.specs.Prelude.{pos}
 use Rattle.std.specs.Int.{w64, to_le_bytes, cast_unsigned}
 use Rattle.std.specs.Int.RustNames.{FitsSigned}
 use Rattle.std.specs.List.{AllByRecursion}
-use Rattle.std.proofs.lemmas.Bool.{and_parts, and_from, leb-true, le-leb, cases_Bool}
+use Rattle.std.proofs.lemmas.Bool.{and_parts, and_from, leb-true, le-leb}
 use Rattle.lo_base.specs.declared.column.Column.{Column}
 use Rattle.lo_base.specs.declared.column.ColType.{ColType}
 use Rattle.lo_base.specs.declared.column.ColType.TheVariants as types
@@ -18,14 +18,13 @@ use Rattle.toast_plan.specs.Choice.{outside_of, planned_length}
 use Rattle.toast_plan.specs.Reading.{cell_length, cell_lengths, is_cell_outside, ArePlanned}
 use Rattle.lo_image.specs.declared.fault.Defect.{Defect}
 use Rattle.lo_image.specs.declared.fault.Defect.TheVariants.{Range, Order, Plan}
-use Rattle.lo_image.specs.declared.fault.Fault.{Fault}
 use Rattle.lo_image.specs.declared.place.RowPlace.{RowPlace}
-use Rattle.lo_image.specs.Opening.{id_follows}
-use Rattle.lo_image.specs.Readers.{tested, fixed_piece, behind, both, made, each, many}
-use Rattle.lo_image.specs.Reading.{int_at, id_defect, id_at, cell_at, after_cell, after_column_cell, after_cells, is_plain, same_mark, same_marks, are_planned, plan_defect, row_of, cells_at, row_at, id_in, after_row, rows_at, after_rows}
-use Rattle.lo_image.proofs.ReaderLaws.{IsBytes, Reads, Judges, Same, fixed_piece_is, tested_reads, behind_reads, both_reads, made_reads, same_reads, joined, AllFrom, AreRead, many_reads}
+use Rattle.lo_opening.specs.Opening.{id_follows}
+use Rattle.lo_image.specs.Readers.{tested, fixed_piece, both, made, each}
+use Rattle.lo_image.specs.Reading.{int_at, id_defect, id_at, cell_at, after_cell, after_column_cell, is_plain, same_mark, same_marks, are_planned, plan_defect, row_of, cells_at, row_at, after_row, rows_at}
+use Rattle.lo_image.proofs.ReaderLaws.{Reads, Judges, fixed_piece_is, tested_reads, behind_reads, both_reads, made_reads, same_reads, joined, AllFrom, AreRead, many_reads}
 use Rattle.lo_image.proofs.ListLaws.{each_form, EachIs, each_reads, all_free}
-use Rattle.lo_image.proofs.CellLaws.{IsPayload, TagRule, IsTagged, IsCellAt, tag_of, cell_form, int_reads, cell_reads}
+use Rattle.lo_image.proofs.CellLaws.{IsPayload, IsCellAt, cell_form, int_reads, cell_reads}
 
 -- ---- the id
 

@@ -1,6 +1,6 @@
 -- The values of a row and their fields: what is read of one is the other.
-use Rattle.std.proofs.Common.{◌≡◌, ◌≢◌, ℕ, ℤ, zero, suc, ◌+◌, ◌≤◌, ◌<◌, ◌^◌, Bool, true, false, cond, List, [], ◌∷◌, ◌++◌, length, map, drop, All, Option, Some, None, refl, sym, ap, subst, ◌∙◌, append_assoc, arith, inl, inr}
-use Rattle.std.specs.Prelude.{slice_get, IfSome}
+use Rattle.std.proofs.Common.{◌≡◌, ℕ, ℤ, suc, ◌+◌, ◌≤◌, ◌<◌, ◌^◌, Bool, true, false, cond, List, [], ◌∷◌, ◌++◌, length, map, All, Option, Some, refl, sym, ap, subst, ◌∙◌, arith}
+use Rattle.std.specs.Prelude.{slice_get}
 use Rattle.std.specs.List.{AllByRecursion}
 use Rattle.std.specs.Int.{w64}
 use Rattle.std.specs.Int.RustNames.{FitsSigned}
@@ -15,24 +15,21 @@ use Rattle.lo_base.specs.declared.value.Value.{Value}
 use Rattle.lo_base.specs.declared.value.Value.TheVariants as values
 use Rattle.lo_base.specs.declared.value.Cell.{Cell}
 use Rattle.lo_base.specs.declared.value.Cell.TheVariants as cells
-use Rattle.lo_model.specs.Held.{chunk_bytes, pieces}
 use Rattle.toast_plan.specs.Columns.{IsTableColumns, IsPlainIfFixed}
 use Rattle.toast_plan.specs.Layout.{up_to_8}
 use Rattle.toast_plan.specs.Choice.{outside_of, planned_length}
-use Rattle.toast_plan.specs.Row.{Field, Null, Int, Oid, Inline, Outside, field_form, row_form, IsFieldOf, AreFields, IsRow, is_outside, field_length, field_lengths, value_length, value_lengths, FitsType, FitColumns, AreRowValues, count_outside, field_of, fields_of, planned_fields, cell_of, StartsWithId}
+use Rattle.toast_plan.specs.Row.{Int, Oid, Inline, field_form, row_form, IsFieldOf, AreFields, is_outside, field_length, field_lengths, value_length, value_lengths, FitsType, FitColumns, count_outside, field_of, fields_of, planned_fields, cell_of, StartsWithId}
 use Rattle.toast_plan.specs.Writing.{HasRange}
-use Rattle.toast_plan.specs.Reading.{cell_length, cell_lengths, is_cell_outside, ArePlanned}
-use Rattle.toast_plan.specs.Laws.{HasRow}
+use Rattle.toast_plan.specs.Reading.{cell_length, cell_lengths, is_cell_outside}
 use Rattle.toast_plan.proofs.PlanLaws.{plain_stay_holds, length_outside}
 use Rattle.toast_plan.proofs.RowLaws.{is_row, values_same}
 use Rattle.lo_image.specs.declared.place.RowPlace.{RowPlace}
-use Rattle.lo_image.specs.Opening.{marks_of, row_outside, value_chunks, marked_chunks, IsArrayIfThere, HoldArrays, id_of, id_follows, IsRowAt}
-use Rattle.lo_image.specs.Image.{value_form, marked_form, next_number, row_chunks_form}
-use Rattle.lo_image.specs.Reading.{is_plain, after_cell, after_column_cell, after_cells, id_in, cell_chunks, chunks_in_row, kind_in, next_columns}
-use Rattle.lo_image.proofs.ListLaws.{AreLong, EachIs, each_form}
-use Rattle.lo_image.proofs.CellLaws.{TagRule, IsPayload, IsTagged, IsCellAt, CellArray, is_oid_kind, is_bytes_kind, tag_of, cell_form}
+use Rattle.lo_opening.specs.Opening.{marks_of, row_outside, value_chunks, marked_chunks, IsArrayIfThere, HoldArrays, id_of, id_follows, IsRowAt}
+use Rattle.lo_image.specs.Image.{marked_form, next_number, row_chunks_form}
+use Rattle.lo_image.specs.Reading.{is_plain, after_cell, after_cells, id_in, cell_chunks, chunks_in_row}
+use Rattle.lo_image.proofs.CellLaws.{TagRule, IsCellAt, is_oid_kind, is_bytes_kind, cell_form}
 use Rattle.lo_image.proofs.RowLaws.{IsIdAt, cells_form, AreCells, AreRowCellsAt, IsRowCells}
-use Rattle.lo_image.proofs.ValueLaws.{IsKnown, IsLongOf, IsValueOf, long_form, behind_form, IsColumnValue, AreRowValuesOf, row_behind, AreKnown}
+use Rattle.lo_image.proofs.ValueLaws.{IsKnown, IsLongOf, IsValueOf, behind_form, AreRowValuesOf, row_behind, AreKnown}
 
 -- ---- from values to cells
 

@@ -1,5 +1,5 @@
 -- The place of a fault lies within the bytes, and what is left after a reader is no longer than before.
-use Rattle.std.proofs.Common.{◌≡◌, ℕ, ℤ, zero, suc, ◌+◌, ◌-◌, ◌≤◌, min, Bool, true, false, cond, ltb, eqb, List, [], ◌∷◌, length, take, drop, Option, Some, None, Result, Ok, Err, refl, subst, sym, arith}
+use Rattle.std.proofs.Common.{◌≡◌, ℕ, ℤ, zero, suc, ◌+◌, ◌-◌, ◌≤◌, min, Bool, true, false, cond, ltb, eqb, List, [], ◌∷◌, length, take, drop, Option, Some, None, Result, Ok, Err, arith}
 use Rattle.std.specs.Prelude.{bytes_eq}
 use Rattle.std.specs.Int.{Width, w16, w32, w64, byte_len, from_le_bytes}
 use Rattle.std.proofs.lemmas.List.{length-drop}
@@ -16,16 +16,16 @@ use Rattle.lo_base.specs.declared.value.Value.{Value}
 use Rattle.lo_base.specs.declared.value.Value.TheVariants as values
 use Rattle.lo_base.specs.declared.value.Cell.{Cell}
 use Rattle.lo_base.specs.declared.value.Cell.TheVariants as cells
-use Rattle.lo_image.specs.declared.opening.ObjectData.{ObjectData}
-use Rattle.lo_image.specs.declared.opening.TableData.{TableData}
+use Rattle.lo_opening.specs.declared.opening.ObjectData.{ObjectData}
+use Rattle.lo_opening.specs.declared.opening.TableData.{TableData}
 use Rattle.lo_image.specs.declared.place.BlockPlace.{BlockPlace}
 use Rattle.lo_image.specs.declared.place.ChunkPlace.{ChunkPlace}
 use Rattle.lo_image.specs.declared.place.ObjectPlace.{ObjectPlace}
 use Rattle.lo_image.specs.declared.place.RowPlace.{RowPlace}
 use Rattle.lo_image.specs.declared.place.TableCells.{TableCells}
-use Rattle.lo_image.specs.Opening.{OpeningData}
+use Rattle.lo_opening.specs.Opening.{OpeningData}
 use Rattle.lo_image.specs.Readers.{◌>>=◌, fails, piece, number, judged, tested, fixed, fixed_piece, behind, both, made, many, each}
-use Rattle.lo_image.specs.Reading.{byte_at, counted_at, column_at, after_column, columns_at, kind_at, storage_at, int_at, id_at, bytes_at, inline_at, outside_at, payload_at, tagged_at, cell_at, after_column_cell, cells_at, row_at, after_row, rows_at, TablePlace, table_at, after_table, tables_at, chunk_at, after_chunk, value_at, cell_value_at, next_columns, kind_in, column_value_at, row_values_at, same_columns, rows_values_at, table_values_at, no_state, tables_values_at, block_at, after_block, blocks_at, count_defect, size_defect, counter_defect, tables_defect, object_at, after_object, objects_at, Behind, behind_tables, Parts, opening_at, image_at}
+use Rattle.lo_image.specs.Reading.{byte_at, counted_at, column_at, after_column, columns_at, kind_at, storage_at, int_at, id_at, bytes_at, inline_at, outside_at, payload_at, tagged_at, cell_at, after_column_cell, cells_at, row_at, after_row, rows_at, TablePlace, table_at, after_table, tables_at, chunk_at, after_chunk, value_at, cell_value_at, next_columns, kind_in, column_value_at, row_values_at, same_columns, table_values_at, no_state, tables_values_at, block_at, after_block, blocks_at, count_defect, size_defect, counter_defect, tables_defect, object_at, after_object, objects_at, Behind, behind_tables, Parts, opening_at, image_at}
 
 abbrev pub StaysIn : {A : Type 0} → ℕ → Result (A × List ℕ) Fault → Type 0
 StaysIn n (Ok x) = length x.1 ≤ n

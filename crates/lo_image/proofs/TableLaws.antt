@@ -1,5 +1,5 @@
 -- The law for tables whose values outside are not there yet.
-use Rattle.std.proofs.Common.{◌≡◌, ℕ, zero, suc, ◌+◌, ◌≤◌, ◌<◌, ◌^◌, List, [], ◌∷◌, ◌++◌, length, Option, Some, None, refl, sym, ap, subst, ◌∙◌, arith}
+use Rattle.std.proofs.Common.{◌≡◌, ℕ, ◌+◌, ◌≤◌, ◌<◌, ◌^◌, List, [], ◌∷◌, ◌++◌, length, None, refl, ap, arith}
 use Rattle.std.specs.Int.{w16, w64, to_le_bytes}
 use Rattle.std.proofs.lemmas.Bool.Decides.{nat_tests}
 use Rattle.lo_base.specs.declared.column.Column.{Column}
@@ -7,9 +7,9 @@ use Rattle.lo_base.specs.declared.value.Cell.{Cell}
 use Rattle.toast_plan.specs.Columns.{IsTableColumns}
 use Rattle.lo_image.specs.declared.place.TableCells.{TableCells}
 use Rattle.lo_image.specs.Image.{name_form, columns_form}
-use Rattle.lo_image.specs.Readers.{number, tested, both, made, many}
+use Rattle.lo_image.specs.Readers.{number, tested, both}
 use Rattle.lo_image.specs.Reading.{counted_at, table_name_defect, columns_at, rows_at, TablePlace, table_of, table_at, after_table, tables_at, tables_defect}
-use Rattle.lo_image.proofs.ReaderLaws.{Reads, Judges, Same, wide16, wide64, number_reads, tested_reads, both_reads, made_reads, same_reads, joined, AllFrom, AreRead, many_reads}
+use Rattle.lo_image.proofs.ReaderLaws.{Reads, Judges, wide16, wide64, number_reads, tested_reads, both_reads, made_reads, same_reads, joined, AllFrom, AreRead, many_reads}
 use Rattle.lo_image.proofs.ColumnLaws.{TableName, table_name_reads, counted_columns, AreColumns, columns_reads}
 use Rattle.lo_image.proofs.RowLaws.{all_cells_form, AreRowsAt, first_row, AreTableRows, rows_reads}
 

@@ -1,5 +1,5 @@
 -- The laws for the values of cells: those in the row, and those outside that stand in chunks.
-use Rattle.std.proofs.Common.{◌≡◌, ℕ, zero, suc, ◌+◌, ◌≤◌, ◌<◌, ◌^◌, List, [], ◌∷◌, ◌++◌, length, drop, Option, Some, None, Result, Ok, Err, refl, sym, ap, subst, ◌∙◌, arith}
+use Rattle.std.proofs.Common.{◌≡◌, ℕ, ◌≤◌, ◌<◌, ◌^◌, List, [], Result, Ok, refl, sym, ap, subst, ◌∙◌}
 use Rattle.std.specs.List.{AllByRecursion}
 use Rattle.lo_base.specs.declared.column.Column.{Column}
 use Rattle.lo_base.specs.declared.column.ColType.{ColType}
@@ -8,13 +8,13 @@ use Rattle.lo_base.specs.declared.value.Value.TheVariants as values
 use Rattle.lo_base.specs.declared.value.Cell.{Cell}
 use Rattle.lo_base.specs.declared.value.Cell.TheVariants as cells
 use Rattle.lo_image.specs.declared.fault.Fault.{Fault}
-use Rattle.lo_image.specs.declared.opening.TableData.{TableData}
+use Rattle.lo_opening.specs.declared.opening.TableData.{TableData}
 use Rattle.lo_image.specs.declared.place.TableCells.{TableCells}
-use Rattle.lo_image.specs.Opening.{IsArrayIfThere}
+use Rattle.lo_opening.specs.Opening.{IsArrayIfThere}
 use Rattle.lo_image.specs.Image.{value_form}
-use Rattle.lo_image.specs.Readers.{tested, made, each}
+use Rattle.lo_image.specs.Readers.{tested, made}
 use Rattle.lo_image.specs.Reading.{array_defect, value_at, cell_value_at, next_columns, kind_in, column_value_at, row_values_at, same_columns, rows_values_at, with_rows, table_values_at, no_state, tables_values_at}
-use Rattle.lo_image.proofs.ReaderLaws.{Reads, Judges, Same, ok_is, tested_reads, made_reads, same_reads}
+use Rattle.lo_image.proofs.ReaderLaws.{Reads, ok_is, tested_reads, made_reads}
 use Rattle.lo_image.proofs.ListLaws.{AreLong, each_form, EachIs, each_reads}
 use Rattle.lo_image.proofs.CellLaws.{array_sound, array_again}
 use Rattle.lo_image.proofs.ChunkLaws.{value_reads}

@@ -1,5 +1,5 @@
 -- What the rules of an opening say to the writer.
-use Rattle.std.proofs.Common.{◌≡◌, ℕ, ℤ, ◌+◌, ◌≤◌, ◌<◌, ◌^◌, List, [], ◌∷◌, ◌++◌, length, All, Option, Some, None, Result, Ok, Err, true, refl, sym, ap, subst, ◌∙◌, arith}
+use Rattle.std.proofs.Common.{◌≡◌, ℕ, ℤ, ◌+◌, ◌≤◌, List, [], ◌∷◌, ◌++◌, length, All, Option, Some, None, Result, Ok, Err, true, sym, ap, ◌∙◌, arith}
 use Rattle.std.specs.Prelude.{IsTrue, OnOk, OnErr}
 use Rattle.std.specs.List.{AllByRecursion}
 use Rattle.std.proofs.lemmas.List.{append-nil}
@@ -9,10 +9,10 @@ use Rattle.lo_base.specs.declared.column.Column.{Column}
 use Rattle.lo_base.specs.declared.value.Value.{Value}
 use Rattle.lo_outside.specs.declared.files.Failed.{Failed}
 use Rattle.lo_outside.specs.Files.{File, SetsFile, unsynced}
-use Rattle.lo_image.specs.declared.opening.ObjectData.{ObjectData}
-use Rattle.lo_image.specs.declared.opening.TableData.{TableData}
-use Rattle.lo_image.specs.Opening.{OpeningData, AreBlocks, AreObjects, blocks_held, has_tail, row_outside, rows_outside, id_of, AreRows, AreTables, IsOpening}
-use Rattle.lo_image.specs.Writing.{Written, WasGiven, HoldsFront, LeavesFront, Puts, IsNumberedRow, AreNumberedRows, HasShortName, IsNumberedTable, AreNumberedTables, IsShortBlock, IsShortObject}
+use Rattle.lo_opening.specs.declared.opening.ObjectData.{ObjectData}
+use Rattle.lo_opening.specs.declared.opening.TableData.{TableData}
+use Rattle.lo_opening.specs.Opening.{AreBlocks, AreObjects, blocks_held, row_outside, rows_outside, id_of, AreRows, AreTables}
+use Rattle.lo_image.specs.Writing.{Written, WasGiven, HoldsFront, LeavesFront, Puts, AreNumberedRows, AreNumberedTables, IsShortBlock, IsShortObject}
 
 numbered_rows : (columns : List Column) (table : ℕ) (last : Option ℤ) (value : ℕ) (rows : List (List Value)) → AreRows columns table last value rows → AreNumberedRows columns value rows
 numbered_rows columns table last value [] h = tt

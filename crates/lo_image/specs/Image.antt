@@ -10,9 +10,9 @@ use Rattle.lo_base.specs.declared.value.Value.{Value}
 use Rattle.lo_base.specs.declared.value.Value.TheVariants as values
 use Rattle.lo_model.specs.Held.{chunk_bytes, pieces}
 use Rattle.toast_plan.specs.Row.{row_form, planned_fields}
-use Rattle.lo_image.specs.declared.opening.ObjectData.{ObjectData}
-use Rattle.lo_image.specs.declared.opening.TableData.{TableData}
-use Rattle.lo_image.specs.Opening.{OpeningData, marks_of, row_outside, rows_outside, tables_chunks}
+use Rattle.lo_opening.specs.declared.opening.ObjectData.{ObjectData}
+use Rattle.lo_opening.specs.declared.opening.TableData.{TableData}
+use Rattle.lo_opening.specs.Opening.{OpeningData, marks_of, row_outside, rows_outside, tables_chunks}
 
 -- PGLOIMG1
 abbrev pub magic : List ℕ

@@ -1,4 +1,3 @@
-pub mod Opening
 pub mod Image
 pub mod Readers
 pub mod Reading

@@ -33,9 +33,9 @@ use Rattle.lo_image.specs.declared.place.ObjectPlace.{ObjectPlace}
 use Rattle.lo_image.specs.declared.place.RowPlace.{RowPlace}
 use Rattle.lo_image.specs.declared.place.ChunkPlace.{ChunkPlace}
 use Rattle.lo_image.specs.declared.place.TableCells.{TableCells}
-use Rattle.lo_image.specs.declared.opening.ObjectData.{ObjectData}
-use Rattle.lo_image.specs.declared.opening.TableData.{TableData}
-use Rattle.lo_image.specs.Opening.{OpeningData, block_length, blocks_below, blocks_held, all_zero, id_follows}
+use Rattle.lo_opening.specs.declared.opening.ObjectData.{ObjectData}
+use Rattle.lo_opening.specs.declared.opening.TableData.{TableData}
+use Rattle.lo_opening.specs.Opening.{OpeningData, block_length, blocks_below, blocks_held, all_zero, id_follows}
 use Rattle.lo_image.specs.Image.{magic}
 use Rattle.lo_image.specs.Readers.{◌>>=◌, fails, piece, number, tested, fixed, fixed_piece, behind, both, made, many, each}
 

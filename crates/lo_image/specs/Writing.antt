@@ -10,9 +10,9 @@ use Rattle.toast_plan.specs.Columns.{IsTableColumns}
 use Rattle.toast_plan.specs.Layout.{up_to_8}
 use Rattle.toast_plan.specs.Choice.{planned_length}
 use Rattle.toast_plan.specs.Row.{AreRowValues, value_length, value_lengths}
-use Rattle.lo_image.specs.declared.opening.ObjectData.{ObjectData}
-use Rattle.lo_image.specs.declared.opening.TableData.{TableData}
-use Rattle.lo_image.specs.Opening.{OpeningData, row_outside, rows_outside}
+use Rattle.lo_opening.specs.declared.opening.ObjectData.{ObjectData}
+use Rattle.lo_opening.specs.declared.opening.TableData.{TableData}
+use Rattle.lo_opening.specs.Opening.{OpeningData, row_outside, rows_outside}
 
 -- ---- bytes that are written
 

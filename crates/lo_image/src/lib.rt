@@ -8,7 +8,6 @@ mod fault;
 mod fields;
 mod law;
 mod objects;
-mod opening;
 mod outside;
 mod place;
 mod plans;
@@ -27,7 +26,6 @@ mod writing;
 
 pub use fault::{BadImage, Defect, Fault, ImageError, Stop};
 pub use law::one_image;
-pub use opening::{ObjectData, ObjectList, Opening, StoredBlocks, TableData, TableList};
 pub use place::{BlockPlace, ChunkPlace, ObjectPlace, RowPlace, TableCells, TableCellsList};
 pub use reading::read_image;
 pub use writing::write_image;

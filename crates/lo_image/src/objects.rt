@@ -1,15 +1,15 @@
 //! The large objects of an image, with their blocks.
 ghost use Rattle.std.specs.Prelude.{◌≡◌, ◌<◌, ◌≤◌, ◌+◌, ◌^◌, length, IfOk};
 ghost use Rattle.std.specs.Int.{w32, w64};
-ghost use Rattle.lo_image.specs.Opening.{block_length, blocks_held, has_tail, all_zero};
+ghost use Rattle.lo_opening.specs.Opening.{block_length, all_zero};
 ghost use Rattle.lo_image.specs.Readers.{Gives, piece, number, tested};
 ghost use Rattle.lo_image.specs.Reading.{block_defect, zero_defect, block_at, blocks_at, oid_defect, size_defect, count_defect, object_at, after_object, objects_at};
 
 use crate::fault::{Defect, Stop};
 use crate::fields::{fails, fixed_u16, piece_at, u32_at, u64_at};
-use crate::opening::{ObjectData, ObjectList, StoredBlocks};
 use crate::place::{BlockPlace, ObjectPlace};
 use lo_base::{Bytes, ListOf};
+use lo_opening::{ObjectData, ObjectList, StoredBlocks};
 use std::alloc::Global;
 
 const BLOCK_BYTES: u64 = 2048;
@@ -182,24 +182,13 @@ fn object_at(alloc: Global, place: ObjectPlace, bytes: &[u8]) -> Result<(ObjectD
     Ok((ObjectData { oid, size, stored }, rest))
 }
 
-fn has_tail(object: &ObjectData) -> bool
-    ensures { result ≡ has_tail object.now.size 0 object.now.stored }
-{
-    let mut end = 0;
-    for block in object.stored.items() {
-        end = BLOCK_BYTES * block.0 as u64 + BLOCK_BYTES;
-    }
-    end < object.size
-}
-
 fn after_object(place: ObjectPlace, object: &ObjectData) -> ObjectPlace
     requires { place.held + length object.now.stored < 2 ^ 32 }
     ensures { result ≡ after_object place object.now }
 {
-    let tail: u64 = if has_tail(object) { 1 } else { 0 };
     ObjectPlace {
         least: object.oid as u64 + 1,
-        held: place.held + (object.stored.items().len() as u64 + tail),
+        held: place.held + object.blocks_held(),
     }
 }
 

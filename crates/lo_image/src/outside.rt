@@ -5,7 +5,7 @@ ghost use Rattle.toast_plan.specs.Columns.{IsTableColumns};
 ghost use Rattle.toast_plan.specs.Layout.{up_to_8};
 ghost use Rattle.toast_plan.specs.Choice.{IsPlanFor, planned_length};
 ghost use Rattle.toast_plan.specs.Row.{AreRowValues, count_outside, value_lengths};
-ghost use Rattle.lo_image.specs.Opening.{value_chunks, marked_chunks};
+ghost use Rattle.lo_opening.specs.Opening.{value_chunks, marked_chunks};
 ghost use Rattle.lo_image.specs.Writing.{IsShortValue};
 
 use crate::values::pieces_of;

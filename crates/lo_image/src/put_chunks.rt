@@ -2,16 +2,16 @@
 ghost use Rattle.std.specs.Prelude.{◌≡◌, ◌<◌, ◌≤◌, ◌+◌, ◌^◌, All, length, IsTrue, IfOk};
 ghost use Rattle.toast_plan.specs.Columns.{IsTableColumns};
 ghost use Rattle.toast_plan.specs.Row.{count_outside};
-ghost use Rattle.lo_image.specs.Opening.{rows_outside};
+ghost use Rattle.lo_opening.specs.Opening.{rows_outside};
 ghost use Rattle.lo_image.specs.Image.{chunk_form, value_form, marked_form, row_chunks_form, rows_chunks_form, tables_chunks_form};
 ghost use Rattle.lo_image.specs.Writing.{written, Puts, IsShortValue, AreNumberedRows, AreNumberedTables};
 
 use crate::buffer::Buffer;
-use crate::opening::TableData;
 use crate::outside::plan_of;
 use crate::putting::{put, put_u16, put_u32};
 use crate::values::{CHUNK_BYTES, pieces_of};
 use lo_base::{Column, Value, Values};
+use lo_opening::TableData;
 use lo_outside::{Failed, Files};
 use toast_plan::VALUE_LIMIT;
 

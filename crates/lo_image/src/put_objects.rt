@@ -4,9 +4,9 @@ ghost use Rattle.lo_image.specs.Image.{block_form, blocks_form, object_form, obj
 ghost use Rattle.lo_image.specs.Writing.{written, Puts, IsShortBlock, IsShortObject};
 
 use crate::buffer::Buffer;
-use crate::opening::ObjectData;
 use crate::putting::{put, put_u16, put_u32, put_u64};
 use lo_base::Bytes;
+use lo_opening::ObjectData;
 use lo_outside::{Failed, Files};
 
 fn put_block<F: Files>(

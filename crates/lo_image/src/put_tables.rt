@@ -2,16 +2,16 @@
 ghost use Rattle.std.specs.Prelude.{◌≡◌, ◌<◌, ◌≤◌, ◌+◌, ◌^◌, length, IfOk};
 ghost use Rattle.toast_plan.specs.Columns.{IsTableColumns};
 ghost use Rattle.toast_plan.specs.Row.{planned_fields, row_form};
-ghost use Rattle.lo_image.specs.Opening.{marks_of, row_outside, rows_outside, marked_chunks, rows_chunks, tables_chunks};
+ghost use Rattle.lo_opening.specs.Opening.{marks_of, row_outside, rows_outside, marked_chunks, rows_chunks, tables_chunks};
 ghost use Rattle.lo_image.specs.Image.{rows_form, table_form, tables_form};
 ghost use Rattle.lo_image.specs.Writing.{written, Puts, IsNumberedRow, AreNumberedRows, IsNumberedTable, AreNumberedTables};
 
 use crate::buffer::Buffer;
-use crate::opening::TableData;
 use crate::outside::{ValuePlace, after_values, plan_of};
 use crate::put_columns::{put_columns, put_name};
 use crate::putting::{put, put_u64};
 use lo_base::{Column, Value, Values};
+use lo_opening::TableData;
 use lo_outside::{Failed, Files};
 use toast_plan::{ROW_ROOM, row_bytes};
 

@@ -1,7 +1,7 @@
 //! An opening read from all of the bytes of its image.
 ghost use Rattle.std.specs.Prelude.{◌≡◌, length, IfOk, Ok};
 ghost use Rattle.std.specs.Int.{w16, w32, w64};
-ghost use Rattle.lo_image.specs.Opening.{OpeningData, IsOpening};
+ghost use Rattle.lo_opening.specs.Opening.{OpeningData, IsOpening};
 ghost use Rattle.lo_image.specs.Image.{image};
 ghost use Rattle.lo_image.specs.Readers.{Gives, number, tested, both};
 ghost use Rattle.lo_image.specs.Reading.{blocks_defect, counter_defect, tables_defect, tables_at, chunks_defect, chunks_in_tables, behind_tables, opening_at, image_at, placed, Answers};
@@ -9,10 +9,10 @@ ghost use Rattle.lo_image.specs.Reading.{blocks_defect, counter_defect, tables_d
 use crate::fault::{BadImage, Defect, ImageError, Stop};
 use crate::fields::{fails, magic_at, u16_at, u32_at, u64_at};
 use crate::objects::objects_at;
-use crate::opening::{ObjectList, Opening, TableList};
 use crate::place::{TableCells, TableCellsList};
 use crate::tables::tables_at;
 use crate::values::{chunks_in_tables, tables_values_at};
+use lo_opening::{ObjectList, Opening, TableList};
 use std::alloc::Global;
 
 fn blocks_number_at(bytes: &[u8]) -> Result<(u32, &[u8]), Stop>

@@ -6,7 +6,7 @@ ghost use Rattle.toast_plan.specs.Reading.{cell_lengths, is_cell_outside};
 ghost use Rattle.lo_base.specs.declared.value.Cell.TheVariants as cells;
 ghost use Rattle.lo_base.specs.declared.column.ColType.TheVariants as types;
 ghost use Rattle.expanded_array.specs.Layout.{is_flat_layout};
-ghost use Rattle.lo_image.specs.Opening.{id_follows};
+ghost use Rattle.lo_opening.specs.Opening.{id_follows};
 ghost use Rattle.lo_image.specs.Readers.{Gives, number, tested, with_front, each};
 ghost use Rattle.lo_image.specs.Reading.{int_at, id_defect, id_at, is_plain, tag_defect, length_defect, raw_defect, bytes_at, inline_at, outside_at, payload_at, tagged_at, is_array_kind, array_defect, cell_defect, cell_at, after_cell, after_column_cell, after_cells, are_planned, cells_at, row_at, after_row, rows_at, after_rows, byte_at};
 

@@ -1,4 +1,5 @@
 // Images that are read, and what is wrong of others: an image of an object and one of a table, each changed in one place.
+mod changed_bytes;
 mod outside;
 mod writing;
 

@@ -7,10 +7,10 @@ ghost use Rattle.lo_image.specs.Reading.{cell_chunks, chunks_in_row, chunks_in_r
 
 use crate::fault::Stop;
 use crate::fields::{fails, fixed_u16, fixed_u32, piece_at};
-use crate::opening::{TableData, TableList};
 use crate::place::{ChunkPlace, TableCells, TableCellsList};
 use crate::rows::array_defect;
 use lo_base::{Bytes, Cell, Cells, ColType, Column, ListOf, RowList, Value, Values};
+use lo_opening::{TableData, TableList};
 use std::alloc::Global;
 
 /// The bytes of a full chunk.

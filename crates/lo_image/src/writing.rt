@@ -2,17 +2,17 @@
 ghost use Rattle.std.specs.Prelude.{◌≡◌, Some, IsTrue, OnOk, OnErr};
 ghost use Rattle.lo_outside.specs.Faults.{HasCause};
 ghost use Rattle.lo_outside.specs.Files.{SetsFile, unsynced};
-ghost use Rattle.lo_image.specs.Opening.{IsOpening};
+ghost use Rattle.lo_opening.specs.Opening.{IsOpening};
 ghost use Rattle.lo_image.specs.Image.{image, image_head};
 ghost use Rattle.lo_image.specs.Writing.{written, Puts, LeavesFront, opening_of};
 
 use crate::buffer::Buffer;
 use crate::fields::MAGIC;
-use crate::opening::{ObjectData, Opening, TableData};
 use crate::put_chunks::put_tables_chunks;
 use crate::put_objects::put_objects;
 use crate::put_tables::put_tables;
 use crate::putting::{flush, put, put_u16, put_u32, put_u64};
+use lo_opening::{ObjectData, Opening, TableData};
 use lo_outside::{Failed, Files};
 
 /// What stands before the tables.

@@ -26,11 +26,11 @@ const FIRST: &[u8] = b"\x02\x00\x00\x00\x00\x00\x00\x00\
 
 const SECOND: &[u8] = b"\x69\x42\x00\x00\x88\x13\x00\x00\x00\x00\x00\x00\x00\x00\x00\x00";
 
-fn put(rt: &impl Abort, bytes: &mut Vec<u8>, piece: &[u8]) {
+pub(crate) fn put(rt: &impl Abort, bytes: &mut Vec<u8>, piece: &[u8]) {
     bytes.extend_from_slice(piece).expect(rt, "memory");
 }
 
-fn fill(rt: &impl Abort, bytes: &mut Vec<u8>, count: usize, byte: u8) {
+pub(crate) fn fill(rt: &impl Abort, bytes: &mut Vec<u8>, count: usize, byte: u8) {
     for _ in 0..count {
         bytes.push(byte).expect(rt, "memory");
     }

@@ -1,6 +1,7 @@
 // Images that are written: their bytes, in how many calls, and what is left where a call fails.
 use super::{OBJECT, TABLE, outside};
-use crate::{Opening, read_image, write_image};
+use crate::{read_image, write_image};
+use lo_opening::Opening;
 use lo_outside::{Failed, Files, MemFiles};
 use std::alloc::Global;
 use std::process::Abort;

@@ -1,4 +1,3 @@
-use Rattle.std.proofs.Common.{◌≡◌}
 use Rattle.lo_base.specs.Name.{IsName}
 use Rattle.lo_image.specs.Reading.{is_name}
 use Rattle.lo_image.proofs.ColumnLaws.{same_tests, is_name_sound, is_name_again}

@@ -1,5 +1,4 @@
-use Rattle.std.proofs.Common.{◌≡◌, ◌≤◌, length, Some, refl, sym, ap, ◌∙◌, arith}
-use Rattle.lo_image.specs.Reading.{name_follows}
+use Rattle.std.proofs.Common.{◌≡◌, Some, refl, ◌∙◌, arith}
 use Rattle.lo_image.specs.Tables.{last_name}
 use Rattle.lo_image.proofs.TableLists.{last_is, less_by_index}
 use Rattle.lo_image.proofs.columns.name_follows.Goals as goal

@@ -1,6 +1,5 @@
-use Rattle.std.proofs.Common.{◌≡◌, ◌++◌, ◌∷◌, [], length, ◌+◌, sym, ap, ◌∙◌, arith}
+use Rattle.std.proofs.Common.{arith}
 use Rattle.std.proofs.lemmas.Result.{err_from_is_err_and}
-use Rattle.std.proofs.lemmas.List.{length-append}
 use Rattle.lo_image.specs.Reading.{block_at, after_block, blocks_at}
 use Rattle.lo_image.proofs.Loop.{read_on, ends, is_done}
 use Rattle.lo_image.proofs.objects.blocks_at.Goals as goal

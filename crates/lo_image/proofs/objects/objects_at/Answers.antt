@@ -1,4 +1,3 @@
-use Rattle.std.proofs.Common.{◌≡◌, ◌++◌, ◌∷◌, [], length, ◌+◌, sym, ap, ◌∙◌, arith}
 use Rattle.std.proofs.lemmas.Result.{err_from_is_err_and}
 use Rattle.lo_image.specs.Reading.{object_at, after_object, objects_at}
 use Rattle.lo_image.proofs.Loop.{read_on, ends, is_done}

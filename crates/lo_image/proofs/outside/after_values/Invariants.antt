@@ -1,6 +1,6 @@
 use Rattle.std.proofs.Common.{◌≡◌, ◌+◌, drop}
 use Rattle.toast_plan.specs.Row.{count_outside}
-use Rattle.lo_image.specs.Opening.{marked_chunks}
+use Rattle.lo_opening.specs.Opening.{marked_chunks}
 use Rattle.lo_image.proofs.outside.after_values.Given as goal
 
 abbrev pub invariant-loop-place : goal.invariant-loop-place

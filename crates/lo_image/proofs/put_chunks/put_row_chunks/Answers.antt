@@ -1,4 +1,4 @@
-use Rattle.std.proofs.Common.{◌≡◌, ◌+◌, false, drop, get_or, refl, arith}
+use Rattle.std.proofs.Common.{◌+◌, false, drop, get_or, refl, arith}
 use Rattle.std.specs.Int.{from_bool}
 use Rattle.toast_plan.proofs.FieldSteps.{count_at}
 use Rattle.lo_image.specs.Image.{marked_form, row_chunks_form}

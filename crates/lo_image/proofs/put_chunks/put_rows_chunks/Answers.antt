@@ -2,7 +2,7 @@ use Rattle.std.proofs.Common.{◌≡◌, ◌+◌, Bool, List, drop, take, length
 use Rattle.toast_plan.specs.Row.{FitColumns, count_outside, value_lengths}
 use Rattle.toast_plan.proofs.PlanLaws.{length_outside}
 use Rattle.toast_plan.proofs.RowLaws.{values_same, values_short}
-use Rattle.lo_image.specs.Opening.{marks_of, row_outside}
+use Rattle.lo_opening.specs.Opening.{marks_of, row_outside}
 use Rattle.lo_image.specs.Image.{row_chunks_form, rows_chunks_form}
 use Rattle.lo_image.proofs.Left.{rows_at, outside_left, rows_chunks_left}
 use Rattle.lo_image.proofs.WritingLaws.{nothing_given, step_by, stop_by, fails}

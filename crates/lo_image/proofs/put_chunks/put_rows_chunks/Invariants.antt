@@ -1,5 +1,5 @@
 use Rattle.std.proofs.Common.{◌≡◌, ◌+◌, drop}
-use Rattle.lo_image.specs.Opening.{rows_outside}
+use Rattle.lo_opening.specs.Opening.{rows_outside}
 use Rattle.lo_image.specs.Writing.{written, HasLeft, AreNumberedRows}
 use Rattle.lo_image.specs.Image.{rows_chunks_form}
 use Rattle.lo_image.proofs.put_chunks.put_rows_chunks.Given as goal

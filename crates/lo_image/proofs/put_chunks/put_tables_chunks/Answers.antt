@@ -1,8 +1,8 @@
 use Rattle.std.proofs.Common.{◌≡◌, ◌+◌, drop, refl, arith}
-use Rattle.lo_image.specs.Opening.{rows_outside}
+use Rattle.lo_opening.specs.Opening.{rows_outside}
 use Rattle.lo_image.specs.Image.{rows_chunks_form, tables_chunks_form}
 use Rattle.lo_image.proofs.Left.{tables_at, tables_chunks_left}
-use Rattle.lo_image.proofs.WritingLaws.{nothing_given, step_by, stop_by, fails}
+use Rattle.lo_image.proofs.WritingLaws.{step_by, stop_by, fails}
 use Rattle.lo_image.proofs.put_chunks.put_tables_chunks.Goals as goal
 
 pub returns-in_err-number : goal.returns-in_err-number

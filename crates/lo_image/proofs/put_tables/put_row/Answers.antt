@@ -1,4 +1,4 @@
-use Rattle.std.proofs.Common.{◌≡◌, length, sym, ap, ◌∙◌}
+use Rattle.std.proofs.Common.{length, sym, ap, ◌∙◌}
 use Rattle.toast_plan.specs.Row.{value_lengths}
 use Rattle.toast_plan.proofs.PlanLaws.{length_outside}
 use Rattle.toast_plan.proofs.RowLaws.{values_same, values_short}

@@ -1,6 +1,6 @@
 use Rattle.std.proofs.Common.{◌≡◌, ◌+◌, drop, refl, arith}
 use Rattle.toast_plan.specs.Row.{planned_fields, row_form}
-use Rattle.lo_image.specs.Opening.{marks_of, row_outside, marked_chunks}
+use Rattle.lo_opening.specs.Opening.{marks_of, row_outside, marked_chunks}
 use Rattle.lo_image.specs.Image.{rows_form}
 use Rattle.lo_image.proofs.Left.{rows_at, outside_left, chunks_left, rows_left}
 use Rattle.lo_image.proofs.WritingLaws.{nothing_given, step_by, stop_by, fails}

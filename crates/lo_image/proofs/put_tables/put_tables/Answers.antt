@@ -1,5 +1,5 @@
-use Rattle.std.proofs.Common.{◌≡◌, ◌+◌, drop, refl, arith}
-use Rattle.lo_image.specs.Opening.{rows_outside}
+use Rattle.std.proofs.Common.{◌+◌, drop, refl, arith}
+use Rattle.lo_opening.specs.Opening.{rows_outside}
 use Rattle.lo_image.specs.Image.{table_form, tables_form}
 use Rattle.lo_image.proofs.Left.{tables_at, table_chunks_left, tables_left}
 use Rattle.lo_image.proofs.WritingLaws.{nothing_given, step_by, stop_by, fails}

@@ -1,5 +1,5 @@
 use Rattle.std.proofs.Common.{◌≡◌, ◌+◌, drop}
-use Rattle.lo_image.specs.Opening.{tables_chunks}
+use Rattle.lo_opening.specs.Opening.{tables_chunks}
 use Rattle.lo_image.specs.Writing.{written, HasLeft, AreNumberedTables}
 use Rattle.lo_image.specs.Image.{tables_form}
 use Rattle.lo_image.proofs.put_tables.put_tables.Given as goal

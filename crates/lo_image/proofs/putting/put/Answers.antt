@@ -1,4 +1,3 @@
-use Rattle.std.proofs.Common.{length, drop, arith}
 use Rattle.lo_image.proofs.WritingLaws.{fails, stop, put_front}
 use Rattle.lo_image.proofs.putting.put.Goals as goal
 

@@ -1,4 +1,3 @@
-use Rattle.std.proofs.Common.{◌≡◌}
 use Rattle.toast_plan.specs.Reading.{ArePlanned}
 use Rattle.lo_image.specs.Reading.{are_planned}
 use Rattle.lo_image.proofs.ColumnLaws.{same_tests}

@@ -1,4 +1,4 @@
-use Rattle.std.proofs.Common.{◌≡◌, arith}
+use Rattle.std.proofs.Common.{arith}
 use Rattle.expanded_array.specs.Flat.{IsFlat}
 use Rattle.expanded_array.specs.Layout.{is_flat_layout}
 use Rattle.lo_image.proofs.ColumnLaws.{same_tests}

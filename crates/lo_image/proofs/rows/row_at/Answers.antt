@@ -1,6 +1,4 @@
-use Rattle.std.proofs.Common.{◌≡◌, ◌≤◌, ap, length, sym, ◌∙◌, arith}
-use Rattle.toast_plan.specs.Columns.{AreLengths}
-use Rattle.toast_plan.specs.Reading.{cell_lengths}
+use Rattle.std.proofs.Common.{ap, sym, ◌∙◌, arith}
 use Rattle.lo_image.specs.Reading.{are_planned}
 use Rattle.lo_image.proofs.ColumnLaws.{some_columns}
 use Rattle.lo_image.proofs.RowLaws.{cells_reads, row_has_lengths, row_unplanned, row_planned}

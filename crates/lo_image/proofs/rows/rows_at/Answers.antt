@@ -1,4 +1,4 @@
-use Rattle.std.proofs.Common.{◌≡◌, ◌++◌, ◌∷◌, [], length, ◌+◌, sym, ap, ◌∙◌, arith}
+use Rattle.std.proofs.Common.{sym, ap, ◌∙◌}
 use Rattle.std.proofs.lemmas.Result.{err_from_is_err_and}
 use Rattle.lo_image.specs.Reading.{row_at, after_cells, after_row, rows_at, after_rows}
 use Rattle.lo_image.proofs.Loop.{read_on, ends, is_done}

@@ -1,6 +1,5 @@
-use Rattle.std.proofs.Common.{◌≡◌, ◌++◌, ◌∷◌, [], Some, length, ◌+◌, sym, ap, subst, ◌∙◌, arith}
+use Rattle.std.proofs.Common.{length, ◌+◌, subst}
 use Rattle.std.proofs.lemmas.Result.{err_from_is_err_and}
-use Rattle.std.proofs.lemmas.List.{length-append}
 use Rattle.lo_image.specs.declared.place.TableCells.{TableCells}
 use Rattle.lo_image.specs.Reading.{TablePlace, table_at, after_table, tables_at}
 use Rattle.lo_image.specs.Tables.{place_of, last_name}

@@ -1,4 +1,4 @@
-use Rattle.std.proofs.Common.{◌≡◌, ◌+◌, ◌-◌, ◌^◌, ◌≤◌, min, [], drop, ap, sym, ◌∙◌, arith}
+use Rattle.std.proofs.Common.{◌≡◌, ◌+◌, ◌-◌, ◌^◌, min, ap, sym, ◌∙◌, arith}
 use Rattle.lo_image.specs.Reading.{chunks_in_tables}
 use Rattle.lo_image.proofs.Loop.{none_at}
 use Rattle.lo_image.proofs.values.chunks_in_tables.Goals as goal

@@ -1,7 +1,6 @@
-use Rattle.std.proofs.Common.{◌≡◌, ◌+◌, ◌-◌, ap, subst, sym, ◌∙◌, arith}
+use Rattle.std.proofs.Common.{◌+◌, ap}
 use Rattle.std.proofs.lemmas.Result.{err_from_is_err_and}
-use Rattle.lo_image.specs.Readers.{with_front, made, many}
-use Rattle.lo_image.specs.Reading.{chunk_at, after_chunk, joined_pieces, value_at}
+use Rattle.lo_image.specs.Reading.{chunk_at, after_chunk, value_at}
 use Rattle.lo_image.proofs.Loop.{joins_on, joins_end, joins_done}
 use Rattle.lo_image.proofs.values.value_at.Goals as goal
 

@@ -1,5 +1,5 @@
 use Rattle.lo_image.proofs.WritingLaws.{nothing_given, step, stop, last, fails}
-use Rattle.lo_image.specs.Opening.{tables_chunks}
+use Rattle.lo_opening.specs.Opening.{tables_chunks}
 use Rattle.std.proofs.Common.{None}
 use Rattle.lo_image.specs.Image.{image}
 use Rattle.lo_image.proofs.WritingRules.{numbered_tables, short_objects}

@@ -1,7 +1,7 @@
 use Rattle.std.proofs.Common.{◌≡◌, [], sym, subst}
 use Rattle.std.specs.Prelude.{IsTrue}
 use Rattle.lo_image.specs.Image.{image}
-use Rattle.lo_image.specs.Writing.{written, WasGiven, HoldsFront, GivesMore, FailsWithin, opening_of}
+use Rattle.lo_image.specs.Writing.{written, WasGiven, GivesMore, FailsWithin, opening_of}
 use Rattle.lo_image.proofs.WritingRules.{is_created, all_stand, front_left, a_front_stands, on_err}
 use Rattle.lo_image.proofs.writing.write_image.Goals as goal
 
