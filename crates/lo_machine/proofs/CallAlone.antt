@@ -172,4 +172,5 @@ module _ (s : ℕ) (low : 1 ≤ s) (high : s ≤ 16) (e0 e1 e2 : Engine) (none :
             has = has_same e4 _ _ shared shared _ _ (ap (aborted s) below ∙ below) refl (ended_same (session_undone 1 false (sessions1 s))) (ends.has _ _ _ has3);
             variables = variables_kept e3 e4 (variables_of st) ends.variables arrays3;
             well = stands.well;
+            fit = stands.fit;
           }

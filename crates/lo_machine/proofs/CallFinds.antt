@@ -103,6 +103,7 @@ still_stands old new st stays holds stands = record {
   has = stays.has (edits st) (shared_of st.database) (session_of st) stands.has;
   variables = stays.variables (variables_of st) stands.variables;
   well = stands.well;
+  fit = stands.fit;
 }
 
 -- What a call that found no memory left is lost with its level.

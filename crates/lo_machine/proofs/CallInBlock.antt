@@ -304,6 +304,7 @@ module _ (s : ℕ) (low : 1 ≤ s) (high : s ≤ 16) (e0 : Engine) (st : State) 
             has = has_same e4 _ _ shared shared _ _ (ap (λ (k : ℕ). released s k (edits st)) level_top ∙ released_below s (top + 1) (edits st) before_below) refl session_same has4;
             variables = variables_kept e3 e4 (variables_of st) merges.variables arrays;
             well = stands.well;
+            fit = stands.fit;
           }
         where
           session_same : (t : ℕ) → with_session_at s (session_released level (sessions1 s)) sessions1 t ≡ session_of st t

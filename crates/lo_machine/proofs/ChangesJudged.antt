@@ -43,7 +43,7 @@ named_so name (x ∷ xs) c found =
       | inr fails ↦ named_so name xs c (sym (column_there x xs name fails) ∙ found)
     ]
 
-differ : (a b : List ℕ) → b ≢ a → bytes_eq a b ≡ false
+pub differ : (a b : List ℕ) → b ≢ a → bytes_eq a b ≡ false
 differ a b other = elim (cases_Bool (bytes_eq a b)) [
   | inl holds ↦ absurd (other (sym ((bytes_eq-Decides a b).0 holds)))
   | inr fails ↦ fails

@@ -103,7 +103,7 @@ table_behind u us name is = ap (λ b. cond b (Some u) (table_in name us)) is
 
 -- a table more
 
-find_more : (name : List ℕ) (old more : List Table) (t : Table) → table_in name old ≡ Some t → table_in name (old ++ more) ≡ Some t
+pub find_more : (name : List ℕ) (old more : List Table) (t : Table) → table_in name old ≡ Some t → table_in name (old ++ more) ≡ Some t
 find_more name [] more t found = absurd (false≢true (ap is_some found))
 find_more name (u ∷ us) more t found = by (bytes_eq u.name name) refl (find_more name us more t)
   where

@@ -71,7 +71,7 @@ some_there : (found : Option Table) → is_none found ≡ false → is_some foun
 some_there None is = absurd (true≢false is)
 some_there (Some t) is = refl
 
-each_row : {X Y : Type 0} (P : Y → Type 0) (Q : X → Type 0) (f : X → Y) → ((x : X) → Q x → P (f x)) → (xs : List X) → All Q xs → Each P (map f xs)
+pub each_row : {X Y : Type 0} (P : Y → Type 0) (Q : X → Type 0) (f : X → Y) → ((x : X) → Q x → P (f x)) → (xs : List X) → All Q xs → Each P (map f xs)
 each_row P Q f each [] all = tt
 each_row P Q f each (x ∷ xs) all = (each x (All-head Q x xs all), each_row P Q f each xs (All-tail Q x xs all))
 

@@ -1,6 +1,15 @@
 mod ArrayExamples
 pub mod ArraySought
 pub mod CellsTold
+pub mod FitFound
+pub mod FitLiterals
+pub mod FitObjects
+pub mod FitOpenings
+pub mod FitRuns
+pub mod FitStates
+pub mod FitTables
+pub mod FitViews
+pub mod FlatBytes
 pub mod FlatFound
 pub mod RowJudged
 pub mod ChangesJudged
@@ -23,6 +32,8 @@ pub mod ArrayReplies
 pub mod ArrayTexts
 mod CursorExamples
 pub mod CursorParts
+pub mod CommittedObjects
+pub mod CommittedRows
 mod DescriptorExamples
 pub mod Dispatching
 mod Examples
@@ -31,14 +42,21 @@ pub mod LevelBegins
 pub mod LevelEnds
 pub mod LevelMoves
 pub mod LevelSteps
+pub mod LoadedPages
 pub mod NewEngine
 pub mod NewestLevel
 pub mod ObjectDeeds
+pub mod ObjectsBack
+pub mod OpeningsBack
+pub mod OpeningsFit
+pub mod OpeningsWell
 pub mod NoVariables
 mod ObjectExamples
 pub mod OpenEdits
 pub mod Orders
+pub mod PlanEdits
 pub mod Outcomes
+pub mod Passed
 mod PoolExamples
 pub mod Readings
 pub mod ReplayedRuns

@@ -8,9 +8,10 @@ use Rattle.std.proofs.lemmas.Bool.Decides.{nat_tests}
 use Rattle.std.proofs.lemmas.List.Elements.{All-head, All-tail, All-nil, All-append, All-weaker, All-get_or}
 use Rattle.std.proofs.lemmas.Option.{slice_get_past, slice_get-get_or, slice_get_within, same_Some}
 use Rattle.lo_base.specs.declared.request.Request.{Request}
+use Rattle.lo_model.specs.Opening.{Opening}
 use Rattle.lo_machine.specs.Program.{program_of}
 use Rattle.lo_machine.specs.Served.{IsServed, AreServed}
-use Rattle.lo_machine.specs.Run.{Moment, start, next_line, one_more, moment_after, end_from, IsPlayable, IsWholeFrom, IsWhole, IsOrderOf, acts_before, line_schedule, schedule_of_line, schedule_from, schedule_of}
+use Rattle.lo_machine.specs.Run.{Moment, next_line, one_more, moment_after, end_from, IsPlayable, IsWholeFrom, IsOrderOf, acts_before, line_schedule, schedule_of_line, schedule_from, start_from}
 use Rattle.lo_machine.proofs.ScriptLines.{Runs, line_runs}
 use Rattle.lo_machine.proofs.ReplayedRuns.{moves_on}
 
@@ -87,43 +88,44 @@ whole_from programs m (t ∷ rest) low h =
       complete = λ s positive. ap (λ (end : Moment). next_line programs end s) (end_append programs m (schedule_of_line programs m t) _) ∙ more.complete s positive;
     }
 
-covered_at_start : (programs : List (List Request)) (order : List ℕ) → IsOrderOf programs order → Covers programs start order
-covered_at_start programs order by s low = omega (arith, by.lines s low)
+covered_at_start : (opening : Opening) (programs : List (List Request)) (order : List ℕ) → IsOrderOf programs order → Covers programs (start_from opening) order
+covered_at_start opening programs order by s low = omega (arith, by.lines s low)
 
-pub whole : (programs : List (List Request)) (order : List ℕ) → IsOrderOf programs order → IsWhole programs (schedule_of programs order)
-whole programs order by = whole_from programs start order by.sessions (covered_at_start programs order by)
+pub whole : (opening : Opening) (programs : List (List Request)) (order : List ℕ) → IsOrderOf programs order → IsWholeFrom programs (start_from opening) (schedule_from programs (start_from opening) order)
+whole opening programs order by = whole_from programs (start_from opening) order by.sessions (covered_at_start opening programs order by)
 
 -- Where all requests are served so far, no line takes more than one advance.
 
-served_here : (program : List Request) (i : ℕ) (request : Request) → All IsServed program → slice_get program i ≡ Some request → IsServed request
-served_here program i request all here =
-    subst IsServed (same_Some _ _ (sym (slice_get-get_or program i request (slice_get_within program i request here)) ∙ here))
-    (All-get_or IsServed program i request (slice_get_within program i request here) all)
+has_here : (P : Request → Type 0) (program : List Request) (i : ℕ) (request : Request) → All P program → slice_get program i ≡ Some request → P request
+has_here P program i request all here =
+    subst P (same_Some _ _ (sym (slice_get-get_or program i request (slice_get_within program i request here)) ∙ here))
+    (All-get_or P program i request (slice_get_within program i request here) all)
 
 one_advance : (more : ℕ) (programs : List (List Request)) (m : Moment) (s : ℕ) (line : Option Request) → IfSome line IsServed → line_schedule more programs m s line ≡ s ∷ []
 one_advance more programs m s None served = refl
 one_advance zero programs m s (Some request) served = refl
 one_advance (suc more) programs m s (Some request) served = rw (moves_on m.state s request served) refl
 
-served_line : (programs : List (List Request)) (m : Moment) (s : ℕ) → AreServed programs → IfSome (next_line programs m s) IsServed
-served_line programs m s all = by (next_line programs m s) refl
+-- what holds of all requests of some programs holds of the next line
+pub line_has : (P : Request → Type 0) (programs : List (List Request)) (m : Moment) (s : ℕ) → All (λ lines. All P lines) programs → IfSome (next_line programs m s) P
+line_has P programs m s all = by (next_line programs m s) refl
   where
-    program : All IsServed (program_of programs s)
+    program : All P (program_of programs s)
     program = elim (cases_lt (s - 1) (length programs)) [
-      | inl within ↦ All-get_or (All IsServed) programs (s - 1) [] within all
-      | inr past ↦ subst (All IsServed) (sym (get_or_past programs (s - 1) [] past)) (All-nil IsServed)
+      | inl within ↦ All-get_or (All P) programs (s - 1) [] within all
+      | inr past ↦ subst (All P) (sym (get_or_past programs (s - 1) [] past)) (All-nil P)
     ]
 
-    by : (line : Option Request) → next_line programs m s ≡ line → IfSome line IsServed
+    by : (line : Option Request) → next_line programs m s ≡ line → IfSome line P
     by None is = tt
-    by (Some request) is = served_here (program_of programs s) (m.lines_done s) request program is
+    by (Some request) is = has_here P (program_of programs s) (m.lines_done s) request program is
 
 served_from : (programs : List (List Request)) (m : Moment) (order : List ℕ) → AreServed programs → schedule_from programs m order ≡ order
 served_from programs m [] all = refl
 served_from programs m (s ∷ order) all =
-    let here : schedule_of_line programs m s ≡ s ∷ [] = one_advance (acts_before (m.state.players s).sweep) programs m s (next_line programs m s) (served_line programs m s all) in
+    let here : schedule_of_line programs m s ≡ s ∷ [] = one_advance (acts_before (m.state.players s).sweep) programs m s (next_line programs m s) (line_has IsServed programs m s all) in
     ap (λ (run : List ℕ). run ++ schedule_from programs (end_from programs m (schedule_of_line programs m s)) order) here
     ∙ ap (λ (rest : List ℕ). s ∷ rest) (served_from programs (end_from programs m (schedule_of_line programs m s)) order all)
 
-pub served : (programs : List (List Request)) (order : List ℕ) → AreServed programs → schedule_of programs order ≡ order
-served programs order all = served_from programs start order all
+pub served : (opening : Opening) (programs : List (List Request)) (order : List ℕ) → AreServed programs → schedule_from programs (start_from opening) order ≡ order
+served opening programs order all = served_from programs (start_from opening) order all

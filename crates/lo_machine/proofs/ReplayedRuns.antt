@@ -7,61 +7,22 @@ use Rattle.std.proofs.lemmas.List.{get_or-set_same, get_or-set_other}
 use Rattle.std.proofs.lemmas.Option.{slice_get_within, slice_get_past}
 use Rattle.lo_base.specs.declared.reply.Reply.{Reply}
 use Rattle.lo_base.specs.declared.request.Request.{Request}
-use Rattle.lo_base.specs.declared.request.Request.TheVariants.{Finish, LoCreat, LoOpen, LoClose, LoRead, LoWrite, LoLseek, LoLseek64, LoTell, LoTell64, LoTruncate, LoTruncate64, LoUnlink, LoFromBytea, CreateTable, Insert, Update, Delete, Get, Ids, Slice, Declare, Fetch, Close, Rewrite, Array, Load, Set, Elem, Show, Vacuumlo, Begin, Commit, Rollback, Savepoint, Release, RollbackTo, Vacuum, Step, LoCreate, LoPut, LoGet}
+use Rattle.lo_base.specs.declared.request.Request.TheVariants.{Finish}
+use Rattle.lo_opening.specs.Meaning.{opening_of}
 use Rattle.lo_machine.specs.Served.{IsServed}
 use Rattle.lo_machine.specs.State.{State}
 use Rattle.lo_machine.specs.declared.running.Running.TheInside.{Inside}
 use Rattle.lo_machine.specs.Engine.{IsEngine, HasRows, StandsFor}
 use Rattle.lo_machine.specs.Program.{program_of}
 use Rattle.lo_machine.specs.Replay.{Play, Replays, Advances, moment_of}
-use Rattle.lo_machine.specs.Run.{Moment, start, next_line, one_more, stays_at_line, moment_after, replies_at, replies_from, end_from, replies_of}
+use Rattle.lo_machine.specs.Run.{Moment, next_line, one_more, stays_at_line, moment_after, replies_at, replies_from, end_from, start_from}
 use Rattle.lo_machine.specs.Running.{play_of, IsReplay}
 use Rattle.lo_machine.specs.Step.{reply_to, state_after}
 
 -- a request that is served is no finish, so its line is over after one advance
 pub moves_on : (st : State) (s : ℕ) (request : Request) → IsServed request → stays_at_line st s request ≡ false
 moves_on st s Finish served = absurd (false≢true served.0)
-moves_on st s (LoCreat a) served = refl
-moves_on st s (LoOpen a b) served = refl
-moves_on st s (LoClose a) served = refl
-moves_on st s (LoRead a b) served = refl
-moves_on st s (LoWrite a b) served = refl
-moves_on st s (LoLseek a b c) served = refl
-moves_on st s (LoLseek64 a b c) served = refl
-moves_on st s (LoTell a) served = refl
-moves_on st s (LoTell64 a) served = refl
-moves_on st s (LoTruncate a b) served = refl
-moves_on st s (LoTruncate64 a b) served = refl
-moves_on st s (LoUnlink a) served = refl
-moves_on st s (LoFromBytea a b) served = refl
-moves_on st s (CreateTable a b) served = refl
-moves_on st s (Insert a b) served = refl
-moves_on st s (Update a b c) served = refl
-moves_on st s (Delete a b) served = refl
-moves_on st s (Get a b) served = refl
-moves_on st s (Ids a) served = refl
-moves_on st s (Slice a b c d e) served = refl
-moves_on st s (Declare a b c) served = refl
-moves_on st s (Fetch a b c d) served = refl
-moves_on st s (Close a) served = refl
-moves_on st s (Rewrite a b) served = refl
-moves_on st s (Array a b) served = refl
-moves_on st s (Load a b c d) served = refl
-moves_on st s (Set a b c) served = refl
-moves_on st s (Elem a b) served = refl
-moves_on st s (Show a) served = refl
-moves_on st s (Vacuumlo a b) served = refl
-moves_on st s Begin served = refl
-moves_on st s Commit served = refl
-moves_on st s Rollback served = refl
-moves_on st s (Savepoint a) served = refl
-moves_on st s (Release a) served = refl
-moves_on st s (RollbackTo a) served = refl
-moves_on st s Vacuum served = refl
-moves_on st s Step served = refl
-moves_on st s (LoCreate a) served = refl
-moves_on st s (LoPut a b c) served = refl
-moves_on st s (LoGet a b c) served = refl
+moves_on st s other served = refl
 
 end_more : (programs : List (List Request)) (m : Moment) (schedule : List ℕ) (s : ℕ) → end_from programs m (schedule ++ s ∷ []) ≡ moment_after (end_from programs m schedule) s (next_line programs (end_from programs m schedule) s)
 end_more programs m [] s = refl
@@ -88,6 +49,7 @@ pub record AdvancedBy (s place : ℕ) (request : Request) (reply : Reply) (old n
   pub session : s ≡ place + 1
   pub within : place < 16
   pub line : next_line old.programs (moment_of (play_of old)) s ≡ Some request
+  pub opening : new.opening ≡ old.opening
   pub programs : new.programs ≡ old.programs
   pub schedule : new.schedule.items ≡ old.schedule.items ++ s ∷ []
   pub replies : new.replies.items ≡ old.replies.items ++ (s, reply) ∷ []
@@ -100,7 +62,7 @@ pub record AdvancedBy (s place : ℕ) (request : Request) (reply : Reply) (old n
 
 moment_more : (s place : ℕ) (request : Request) (reply : Reply) (old new : Inside) → AdvancedBy s place request reply old new → moment_of (play_of new) ≡ moment_after (moment_of (play_of old)) s (Some request)
 moment_more s place request reply old new by =
-    rw (by.programs, by.schedule, end_more old.programs start old.schedule.items s) (ap (moment_after (moment_of (play_of old)) s) by.line)
+    rw (by.opening, by.programs, by.schedule, end_more old.programs (start_from (opening_of old.opening)) old.schedule.items s) (ap (moment_after (moment_of (play_of old)) s) by.line)
 
 pub replies_at_line : (s place : ℕ) (request : Request) (reply : Reply) (old new : Inside) → AdvancedBy s place request reply old new → replies_at (moment_of (play_of old)) s (next_line old.programs (moment_of (play_of old)) s) ≡ (s, reply) ∷ []
 replies_at_line s place request reply old new by = rw (by.line, by.answer) refl
@@ -131,8 +93,8 @@ within_at s place request reply old new keeps by p low = elim (cases_eq p place)
 pub advanced : (s place : ℕ) (request : Request) (reply : Reply) (old new : Inside) → IsReplay old → AdvancedBy s place request reply old new → IsReplay new
 advanced s place request reply old new keeps by = record {
   replays =
-      rw (by.replies, by.programs, by.schedule, replies_more old.programs start old.schedule.items s, keeps.replays)
-      (ap (λ more. replies_of old.programs old.schedule.items ++ more) (sym (replies_at_line s place request reply old new by)));
+      rw (by.replies, by.opening, by.programs, by.schedule, replies_more old.programs (start_from (opening_of old.opening)) old.schedule.items s, keeps.replays)
+      (ap (λ more. replies_from old.programs (start_from (opening_of old.opening)) old.schedule.items ++ more) (sym (replies_at_line s place request reply old new by)));
   stands = subst (λ (m : Moment). StandsFor new.engine m.state) (sym (moment_more s place request reply old new by)) by.stands;
   sound = by.sound;
   rows = by.rows;
@@ -150,6 +112,7 @@ advanced s place request reply old new keeps by = record {
 -- what contracts see of it
 pub advances : (s place : ℕ) (request : Request) (reply : Reply) (old new : Inside) (seen : Play) → play_of old ≡ seen → AdvancedBy s place request reply old new → Advances s seen (play_of new)
 advances s place request reply old new seen is by = subst (λ (play : Play). Advances s play (play_of new)) is record {
+  opening = ap opening_of by.opening;
   programs = by.programs;
   schedule = by.schedule;
   replies = by.replies ∙ ap (λ more. old.replies.items ++ more) (sym (replies_at_line s place request reply old new by));
@@ -158,6 +121,7 @@ advances s place request reply old new seen is by = subst (λ (play : Play). Adv
 
 -- want of memory leaves the lists, and the engine stands for what it stood for
 pub record StaysBy (old new : Inside) : Type 0 where
+  pub opening : new.opening ≡ old.opening
   pub programs : new.programs ≡ old.programs
   pub schedule : new.schedule.items ≡ old.schedule.items
   pub replies : new.replies.items ≡ old.replies.items
@@ -167,7 +131,7 @@ pub record StaysBy (old new : Inside) : Type 0 where
   pub stands : (st : State) → StandsFor old.engine st → StandsFor new.engine st
 
 same_play : (old new : Inside) → StaysBy old new → play_of new ≡ play_of old
-same_play old new by = rw (by.programs, by.schedule, by.replies) refl
+same_play old new by = rw (by.opening, by.programs, by.schedule, by.replies) refl
 
 pub stayed : (old new : Inside) → IsReplay old → StaysBy old new → IsReplay new
 stayed old new keeps by = record {

@@ -1,5 +1,5 @@
 -- The row of a rewrite matches the row of its call: where nobody else holds a row of the table, each put of one is free.
-use Rattle.std.proofs.Common.{◌≡◌, ℕ, ℤ, ◌+◌, Bool, true, false, List, [], ◌∷◌, ◌++◌, length, Option, Some, None, refl, ap, sym, subst, arith, append-nil, append_assoc}
+use Rattle.std.proofs.Common.{◌≡◌, ℕ, ℤ, Bool, true, false, List, [], ◌∷◌, ◌++◌, length, Option, Some, None, refl, ap, sym, subst, arith, append-nil, append_assoc}
 use Rattle.std.specs.Prelude.{◌==◌, ◌&&◌, is_some, bytes_eq, if◌then◌else◌}
 use Rattle.std.proofs.lemmas.Bool.{false≢true}
 use Rattle.std.proofs.lemmas.Bool.Decides.{nat_tests}
@@ -27,12 +27,12 @@ use Rattle.lo_machine.proofs.TablesAlike.{held_none, last_none}
 
 -- nobody is the lower of two
 
-lower_first : (a b : Option ℕ) → lower_of a b ≡ None → a ≡ None
+pub lower_first : (a b : Option ℕ) → lower_of a b ≡ None → a ≡ None
 lower_first None b is = refl
 lower_first (Some a) None is = absurd (false≢true (sym (ap is_some is)))
 lower_first (Some a) (Some b) is = absurd (false≢true (sym (ap is_some is)))
 
-lower_second : (a b : Option ℕ) → lower_of a b ≡ None → b ≡ None
+pub lower_second : (a b : Option ℕ) → lower_of a b ≡ None → b ≡ None
 lower_second None b is = is
 lower_second (Some a) None is = refl
 lower_second (Some a) (Some b) is = absurd (false≢true (sym (ap is_some is)))

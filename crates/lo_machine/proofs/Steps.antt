@@ -16,6 +16,7 @@ use Rattle.row_tables.proofs.Resting.{for_ticked}
 use Rattle.xact_core.specs.Transactions.{Transactions, levels_of}
 use Rattle.lo_machine.specs.declared.engine.Engine.{Engine}
 use Rattle.lo_machine.specs.Engine.{xacts_of, HasRows, IsEngine, HasSession, with_variables_at, StandsFor, Serves, Leaves, Does}
+use Rattle.lo_machine.specs.Fitting.{HasKeptRanges, IsFit}
 use Rattle.lo_machine.specs.Served.{IsRanged, IsServed, is_served}
 use Rattle.lo_machine.specs.State.{State, Outcome, session_of, variables_of, refused, with_player, state_with}
 use Rattle.lo_machine.specs.Step.{refusals, may_go_on, failed, refusal_of, granted_or_refused, tried, outcome}
@@ -24,6 +25,7 @@ use Rattle.lo_machine.specs.Transactions.{may_recover}
 use Rattle.lo_machine.specs.Variables.{IsAs}
 use Rattle.lo_machine.specs.Well.{IsFirst, IsWell}
 use Rattle.lo_machine.proofs.BlockRequests.{does_as, failure_is}
+use Rattle.lo_machine.proofs.FitStates.{fit_after}
 use Rattle.lo_machine.proofs.WellStates.{player_as, untold, well_after}
 
 recovers : (st : State) (s : ℕ) (r : Request) → may_recover r ≡ true → may_go_on st s r ≡ true
@@ -116,8 +118,8 @@ variables_as st s done t = by (t == s)
 pub ticked_rows : (e : Engine) (x : Transactions) → x ≡ later_at (xacts_of e) → HasRows e → HasRows (with_xacts e x)
 ticked_rows e x is goes = with_ticked e.tables (xacts_of e) x (record { is = is }) goes
 
-ticked_stands : (e : Engine) (st : State) (s : ℕ) (done : Outcome) → Leaves e st s done → IsWell (state_with st s done) → StandsFor (with_xacts e (later_at (xacts_of e))) (state_with st s done)
-ticked_stands e st s done leaves well = record {
+ticked_stands : (e : Engine) (st : State) (s : ℕ) (done : Outcome) → Leaves e st s done → IsWell (state_with st s done) → IsFit (state_with st s done) → StandsFor (with_xacts e (later_at (xacts_of e))) (state_with st s done)
+ticked_stands e st s done leaves well fit = record {
   time = ap (λ (n : ℕ). n + 1) leaves.time;
   has = record {
     edits = stand_ticked (xacts_of e) (later_at (xacts_of e)) e.store.pages done.database.edits (record { is = refl }) leaves.has.edits;
@@ -128,11 +130,12 @@ ticked_stands e st s done leaves well = record {
   };
   variables = record { each = λ t own low high is. subst (IsAs own) (variables_as st s done t) (leaves.variables.each t own low high is) };
   well = well;
+  fit = fit;
 }
 
-pub served : (old new : Engine) (x : Transactions) (s : ℕ) (r : Request) (reply : Reply) → IsServed r → IsRanged r → x ≡ later_at (xacts_of new) → Does old new s (λ st. outcome st s r) reply → Serves old (with_xacts new x) s r (Ok reply)
-served old new x s r reply serves ranged is does = subst (λ (y : Transactions). Serves old (with_xacts new y) s r (Ok reply)) (sym is) record {
-  ok = λ st stands. (does.reply st stands, ticked_stands new st s (outcome st s r) (does.leaves st stands) (well_after st s r serves.0 serves.1 ranged stands.well));
+pub served : (old new : Engine) (x : Transactions) (s : ℕ) (r : Request) (reply : Reply) → IsServed r → IsRanged r → HasKeptRanges r → x ≡ later_at (xacts_of new) → Does old new s (λ st. outcome st s r) reply → Serves old (with_xacts new x) s r (Ok reply)
+served old new x s r reply serves ranged kept is does = subst (λ (y : Transactions). Serves old (with_xacts new y) s r (Ok reply)) (sym is) record {
+  ok = λ st stands. (does.reply st stands, ticked_stands new st s (outcome st s r) (does.leaves st stands) (well_after st s r serves.0 serves.1 ranged stands.well) (fit_after st s r serves.0 serves.1 kept stands.well stands.fit));
   time = ap (λ (n : ℕ). n + 1) does.time;
   err = tt;
   stays = tt;

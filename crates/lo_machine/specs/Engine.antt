@@ -27,6 +27,7 @@ use Rattle.row_tables.specs.World as calls
 use Rattle.lo_machine.specs.declared.engine.Engine.{Engine}
 use Rattle.lo_machine.specs.declared.variables.Variables.{Variables}
 use Rattle.lo_machine.specs.CallRows.{Shared, shared_of}
+use Rattle.lo_machine.specs.Fitting.{IsFit}
 use Rattle.lo_machine.specs.Later.{all_later, all_later_cursors, with_session_at}
 use Rattle.lo_machine.specs.State.{State, Outcome, Variable, now, edits, session_of, variables_of}
 use Rattle.lo_machine.specs.Step.{reply_to, state_after}
@@ -126,6 +127,11 @@ pub record StandsFor (e : Engine) (st : State) : Type 0 where
   pub has : Has e (edits st) (shared_of st.database) (session_of st)
   pub variables : HasVariables e (variables_of st)
   pub well : IsWell st
+  pub fit : IsFit st
+
+pub record HasState (e : Engine) : Type 0 where
+  pub state : State
+  pub stands : StandsFor e state
 
 -- What a request does to an engine, from every state that it stood for: the reply is that of the step, and the engine then
 -- stands for the next state. Where it finds no memory it stands for what it stood for.

@@ -5,9 +5,11 @@ pub mod CallRows
 pub mod Committed
 pub mod Dispatch
 pub mod Engine
+pub mod Fitting
 pub mod FlatRows
 pub mod Later
 pub mod Literals
+pub mod Loading
 pub mod Moves
 pub mod NewEngine
 pub mod Program

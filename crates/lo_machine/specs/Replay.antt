@@ -1,30 +1,33 @@
 use Rattle.std.specs.Prelude.{◌≡◌, ℕ, List, [], ◌∷◌, ◌++◌, IsSome}
 use Rattle.lo_base.specs.declared.reply.Reply.{Reply}
 use Rattle.lo_base.specs.declared.request.Request.{Request}
-use Rattle.lo_machine.specs.Run.{Moment, next_line, moment_after, replies_at, replies_of, end_of}
+use Rattle.lo_model.specs.Opening.{Opening}
+use Rattle.lo_machine.specs.Run.{Moment, next_line, moment_after, replies_at, replies_from, end_from, start_from}
 
--- What contracts see of a run: the programs that it was given, the schedule so far, and the replies, each with its
--- session.
+-- What contracts see of a run: the opening and the programs that it was given, the schedule so far, and the replies, each
+-- with its session.
 pub record Play : Type 0 where
+  pub opening : Opening
   pub programs : List (List Request)
   pub schedule : List ℕ
   pub replies : List (ℕ × Reply)
 
 -- where a run stands
 abbrev pub moment_of : Play → Moment
-moment_of play = end_of play.programs play.schedule
+moment_of play = end_from play.programs (start_from play.opening) play.schedule
 
 -- the session has a line left
 abbrev pub HasLine : Play → (session : ℕ) → Type 0
 HasLine play s = IsSome (next_line play.programs (moment_of play) s)
 
--- replaying the programs over the schedule gives the replies
+-- replaying the programs over the schedule, from the opening on, gives the replies
 abbrev pub Replays : Play → Type 0
-Replays play = play.replies ≡ replies_of play.programs play.schedule
+Replays play = play.replies ≡ replies_from play.programs (start_from play.opening) play.schedule
 
 -- one advance more: one entry of the schedule and one reply at the end, which is that of the session's next line where
--- the run stood; the programs and all earlier entries stay
+-- the run stood; the opening, the programs and all earlier entries stay
 pub record Advances (session : ℕ) (old new : Play) : Type 0 where
+  pub opening : new.opening ≡ old.opening
   pub programs : new.programs ≡ old.programs
   pub schedule : new.schedule ≡ old.schedule ++ session ∷ []
   pub replies : new.replies ≡ old.replies ++ replies_at (moment_of old) session (next_line old.programs (moment_of old) session)

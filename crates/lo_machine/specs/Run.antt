@@ -39,6 +39,10 @@ start = started None empty_database
 abbrev pub database_of : Opening → Database
 database_of opening = opened plan_of opening
 
+-- Blocks are not counted yet: the program runs openings so.
+abbrev pub start_from : Opening → Moment
+start_from opening = started None (database_of opening)
+
 abbrev pub blocks_of : Opening → ℕ
 blocks_of opening = max opening.blocks (length (held_versions 1 (λ s. idle_session) (database_of opening).edits))
 

@@ -1,11 +1,12 @@
 use Rattle.std.specs.Prelude.{◌≡◌, ℕ, ◌+◌, ◌<◌, ◌≤◌, length, slice_index}
+use Rattle.lo_opening.specs.Meaning.{opening_of}
 use Rattle.lo_machine.specs.declared.running.Running.TheInside.{Inside}
 use Rattle.lo_machine.specs.Engine.{HasRows, IsEngine, StandsFor}
 use Rattle.lo_machine.specs.Program.{program_of}
 use Rattle.lo_machine.specs.Replay.{Play, Replays, moment_of}
 
 abbrev pub play_of : Inside → Play
-play_of r = record { programs = r.programs; schedule = r.schedule.items; replies = r.replies.items }
+play_of r = record { opening = opening_of r.opening; programs = r.programs; schedule = r.schedule.items; replies = r.replies.items }
 
 -- What every run keeps. Its state has had one advance for each entry of the schedule.
 pub record IsReplay (r : Inside) : Type 0 where

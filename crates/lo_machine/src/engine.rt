@@ -1,27 +1,19 @@
 // The engine: transactions, large objects, tables, and for each session its descriptors, its array variables and whether its
 // block is failed; the cursors of all sessions stand with the tables. A request
 // is done at the present clock, which moves on once it was done, so that a request that finds no memory leaves the clock too.
-ghost use Rattle.std.specs.Prelude.{◌≡◌, ◌<◌, ◌^◌, IfOk, IfSome, OnErr, IsTrue, FitsSigned};
-ghost use Rattle.std.specs.Int.{w32};
-ghost use Rattle.lo_calls.specs.declared.session.LoSession.{LoSession};
+ghost use Rattle.std.specs.Prelude.{◌≡◌, ◌<◌, ◌^◌, IfOk, OnErr, IsTrue};
 ghost use Rattle.lo_machine.specs.Engine.{clock_of, HasRows, IsEngine, StandsFor, Serves, Does, Undone, HasRoom};
-ghost use Rattle.lo_machine.specs.NewEngine.{AreNew, AreNone};
-ghost use Rattle.lo_machine.specs.Run.{start};
-ghost use Rattle.lo_machine.specs.Served.{IsRanged, IsServed};
+ghost use Rattle.lo_machine.specs.Served.{IsServed};
 ghost use Rattle.lo_machine.specs.Step.{outcome};
 ghost use Rattle.lo_machine.specs.Transactions.{may_recover};
 
+use crate::ranges::has_ranges;
 use crate::variables::Variables;
-use lo_base::{Cause, NoMemory, Reply, Request, SESSIONS, SessionNo};
-use lo_calls::{Descs, LoSession, LoStore};
-use lo_pages::Pages;
+use lo_base::{Cause, NoMemory, Reply, Request, SessionNo};
+use lo_calls::{LoSession, LoStore};
 use row_tables::Tables;
 use row_versions::Core;
 use std::alloc::Global;
-use xact_core::Xacts;
-
-/// The number from which on new objects are numbered, where the line names none. (Manual, Object Identifier Types.)
-const FIRST_NUMBER: u64 = 16384;
 
 /// More undoings, and more kept views, than a memory has room for.
 const MOST: u64 = 1 << 62;
@@ -45,31 +37,6 @@ pub struct Engine {
 }
 
 impl Engine {
-    /// An engine of the empty database.
-    pub fn start(alloc: Global) -> Result<Engine, NoMemory>
-        ensures sound { IfOk result IsEngine }
-        ensures rows { IfOk result HasRows }
-        ensures stands { IfOk result (λ engine. StandsFor engine start.state) }
-    {
-        let mut xacts = Xacts::new(alloc)?;
-        xacts.tick();
-        let mut failed = Vec::new(alloc);
-        failed.resize(SESSIONS as usize, false)?;
-        Ok(Engine {
-            alloc,
-            core: Core { xacts },
-            store: LoStore {
-                pages: Pages::new(alloc)?,
-                counter: FIRST_NUMBER,
-            },
-            tables: Tables::new(alloc)?,
-            sessions: new_sessions(alloc)?,
-            variables: new_variables(alloc)?,
-            failed,
-            undos: 0,
-        })
-    }
-
     /// Does one request of a session. Where it finds no memory, nothing was done.
     pub fn step(&mut self, s: SessionNo, request: &Request) -> Result<Reply, NoMemory>
         requires sound { IsEngine self.old }
@@ -126,49 +93,6 @@ impl Engine {
         }
     }
 }
-
-/// Sixteen sessions without descriptors.
-fn new_sessions(alloc: Global) -> Result<Vec<LoSession>, NoMemory>
-    ensures { IfOk result (λ sessions. AreNew sessions.items) }
-{
-    let mut sessions = Vec::with_capacity(alloc, SESSIONS as usize)?;
-    for number in 1..=SESSIONS {
-        let Some(s) = SessionNo::new(number) else {
-            unreachable!()
-        };
-        sessions.push(LoSession {
-            descs: Descs::new(alloc)?,
-            s,
-        })?;
-    }
-    Ok(sessions)
-}
-
-/// Sixteen sessions without array variables.
-fn new_variables(alloc: Global) -> Result<Vec<Variables>, NoMemory>
-    ensures { IfOk result (λ lists. AreNone lists.items) }
-{
-    let mut lists = Vec::with_capacity(alloc, SESSIONS as usize)?;
-    for _session in 0..SESSIONS {
-        lists.push(Variables::new(alloc))?;
-    }
-    Ok(lists)
-}
-
-/// The numbers that a request sets in an array have the range of their type.
-fn has_ranges(request: &Request)
-    ensures { IsRanged request.now }
-{
-    if let Request::Set(_, sub, value) = request {
-        are_int4(*sub, *value);
-    }
-}
-
-/// Numbers of this type are from -2147483648 to 2147483647.
-fn are_int4(_sub: i32, _value: Option<i32>)
-    ensures sub { FitsSigned w32 _sub }
-    ensures value { IfSome _value (FitsSigned w32) }
-{}
 
 /// Whether a request may end a block's failure.
 fn may_recover(request: &Request) -> bool

@@ -1,24 +1,31 @@
 // Laws of the definitions, and of what an engine keeps. No code calls these functions.
 ghost use Rattle.std.specs.Prelude.{◌≡◌, ℕ, List};
 ghost use Rattle.lo_base.specs.declared.request.Request.{Request as Line};
+ghost use Rattle.lo_model.specs.Opening.{Opening};
+ghost use Rattle.lo_opening.specs.Meaning.{opening_of};
+ghost use Rattle.lo_opening.specs.Opening.{IsOpening, OpeningData};
 ghost use Rattle.lo_machine.specs.declared.engine.Engine.{Engine};
 ghost use Rattle.lo_machine.specs.Engine.{IsEngine, StandsFor, KeepsViews};
+ghost use Rattle.lo_machine.specs.Committed.{committed_opening};
+ghost use Rattle.lo_machine.specs.Fitting.{AreRanged, HasKeptRanges, IsFit, IsFitOpening};
 ghost use Rattle.lo_machine.specs.Replies.{HasArrayTexts};
-ghost use Rattle.lo_machine.specs.Run.{IsOrderOf, IsWhole, schedule_of};
-ghost use Rattle.lo_machine.specs.Served.{AreServed};
+ghost use Rattle.lo_machine.specs.Run.{IsOrderOf, IsWholeFrom, end_from, schedule_from, start, start_from, start_of};
+ghost use Rattle.lo_machine.specs.Served.{AreServed, IsServed};
 ghost use Rattle.lo_machine.specs.State.{State};
-ghost use Rattle.lo_machine.specs.Step.{reply_to};
+ghost use Rattle.lo_machine.specs.Step.{reply_to, state_after};
+ghost use Rattle.lo_machine.specs.Well.{IsWell};
 
-/// The schedule of an order of some programs is whole. No code runs.
+/// The schedule of an order of some programs is whole, from every opening. No code runs.
 pub fn orders_are_whole()
-    ensures { (programs : List (List Line)) (order : List ℕ) →
-        IsOrderOf programs order → IsWhole programs (schedule_of programs order) }
+    ensures { (opening : Opening) (programs : List (List Line)) (order : List ℕ) →
+        IsOrderOf programs order → IsWholeFrom programs (start_from opening)
+        (schedule_from programs (start_from opening) order) }
 {}
 
 /// Where all requests are among those served so far, each line takes one advance. No code runs.
 pub fn served_lines_take_one_advance()
-    ensures { (programs : List (List Line)) (order : List ℕ) →
-        AreServed programs → schedule_of programs order ≡ order }
+    ensures { (opening : Opening) (programs : List (List Line)) (order : List ℕ) →
+        AreServed programs → schedule_from programs (start_from opening) order ≡ order }
 {}
 
 /// The views that an engine's transactions keep are those that each state keeps for which it stands: that of what is
@@ -32,4 +39,24 @@ pub fn kept_views_are_the_states()
 pub fn texts_are_arrays()
     ensures { (st : State) (session : ℕ) (request : Line) →
         HasArrayTexts (reply_to st session request) }
+{}
+
+/// The database stays such as an opening of it can be. It is so at the beginning, also where that is an opening's; a request
+/// whose numbers and bytes have the ranges of their types keeps it so, and so does a whole run; and the opening of what is
+/// committed has rows that fit their tables, with a plan, and objects of a size. No code runs.
+pub fn databases_stay_fit()
+    ensures begins { IsFit start.state }
+    ensures stays { (st : State) (s : ℕ) (request : Line) → IsServed request →
+        HasKeptRanges request → IsWell st → IsFit st → IsFit (state_after st s request) }
+    ensures runs { (programs : List (List Line)) (schedule : List ℕ) →
+        AreServed programs → AreRanged programs → IsFit (end_from programs start schedule).state }
+    ensures resumes { (opening : Opening) → IsFitOpening opening → IsFit (start_of opening).state }
+    ensures opens { (st : State) (blocks : ℕ) →
+        IsWell st → IsFit st → IsFitOpening (committed_opening blocks st) }
+{}
+
+/// A run that begins with an opening has what the opening has: committed at once it is the same opening. No code runs.
+pub fn openings_come_back()
+    ensures { (d : OpeningData) → IsOpening d →
+        committed_opening d.blocks (start_from (opening_of d)).state ≡ opening_of d }
 {}

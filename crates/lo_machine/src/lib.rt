@@ -5,12 +5,15 @@
 mod arrays;
 mod calls;
 mod cells;
+mod committed;
 mod dispatch;
 mod engine;
 mod law;
 mod levels;
 mod literals;
+mod loading;
 mod programs;
+mod ranges;
 mod rows;
 mod running;
 #[cfg(test)]

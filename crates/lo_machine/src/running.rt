@@ -1,11 +1,14 @@
 // A run: programs, the schedule so far, the replies, and the engine. The type keeps that replaying gives the replies; the
 // engine is called in one place, `advance`.
 ghost use Rattle.std.specs.Prelude.{◌≡◌, ◌+◌, [], IsTrue, IsFalse, IfOk, OnOk, OnErr};
+ghost use Rattle.lo_opening.specs.Meaning.{opening_of};
+ghost use Rattle.lo_machine.specs.Committed.{committed_opening};
 ghost use Rattle.lo_machine.specs.Replay.{Play, HasLine, Replays, Advances, moment_of};
 
 use crate::engine::Engine;
 use crate::programs::Programs;
 use lo_base::{ListOf, NoMemory, Reply, SESSIONS, SessionNo};
+use lo_opening::Opening;
 use std::alloc::Global;
 use std::marker::Model;
 
@@ -22,6 +25,7 @@ const MOST_ADVANCES: usize = (1 << 62) - 1;
 /// for the state at its end.
 #[derive(Drop)]
 pub struct Running {
+    opening: Opening,
     programs: Programs,
     /// For each session how many lines of its program are done.
     lines_done: Vec<usize>,
@@ -30,9 +34,10 @@ pub struct Running {
     engine: Engine,
 }
 
-/// What a run leaves.
+/// What a run leaves: the database that is committed at its end, its schedule and its replies.
 #[derive(Drop)]
 pub struct Finished {
+    pub opening: Opening,
     pub schedule: Schedule,
     pub replies: Replies,
 }
@@ -50,18 +55,25 @@ impl Model for Running {
 }
 
 impl Running {
-    /// Programs before their first advance, on the empty database.
-    pub fn start(alloc: Global, programs: Programs) -> Result<Running, NoMemory>
-        ensures { IfOk result (λ run. run ≡ record { programs = programs; schedule = []; replies = [] }) }
+    /// Programs before their first advance, on the database of an opening.
+    pub fn start(alloc: Global, opening: Opening, programs: Programs) -> Result<Running, NoMemory>
+        ensures { IfOk result (λ run. run ≡ record {
+          opening = opening_of opening;
+          programs = programs;
+          schedule = [];
+          replies = [];
+        }) }
     {
         let mut lines_done = Vec::new(alloc);
         lines_done.resize(SESSIONS as usize, 0)?;
+        let engine = Engine::start(alloc, &opening)?;
         Ok(Running {
+            opening,
             programs,
             lines_done,
             schedule: Vec::new(alloc),
             replies: Vec::new(alloc),
-            engine: Engine::start(alloc)?,
+            engine,
         })
     }
 
@@ -105,13 +117,18 @@ impl Running {
         Ok(())
     }
 
-    /// The schedule and the replies of the whole run.
+    /// The committed database, the schedule and the replies of the whole run. Blocks that are open are undone.
     pub fn finish(self) -> Result<Finished, NoMemory>
+        ensures opening { IfOk result (λ end. opening_of end.opening
+            ≡ committed_opening self.opening.blocks (moment_of self).state) }
         ensures schedule { IfOk result (λ end. end.schedule ≡ self.schedule) }
         ensures replies { IfOk result (λ end. end.replies ≡ self.replies) }
         ensures replays { Replays self }
     {
+        let run = &self;
+        let opening = run.engine.committed(run.opening.blocks)?;
         Ok(Finished {
+            opening,
             schedule: ListOf::from_vec(self.schedule),
             replies: ListOf::from_vec(self.replies),
         })

@@ -19,3 +19,4 @@ pub use error::{BadLine, ScriptError};
 pub use law::{replies_are_lines, tokens_spell};
 pub use reply::reply_text;
 pub use script::{Script, read_script};
+pub use token::decimal;

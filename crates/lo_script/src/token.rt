@@ -219,7 +219,7 @@ fn marked(token: &[u8]) -> Option<SessionNo>
 }
 
 /// The number that prints as the token.
-fn decimal(token: &[u8]) -> Option<i64>
+pub fn decimal(token: &[u8]) -> Option<i64>
     ensures { result ≡ int8_of token.now }
 {
     let n = str::from_utf8(token).ok()?.parse::<i64>().ok()?;

@@ -13,6 +13,7 @@ use Rattle.lo_machine.proofs.running.Running.advance.Goals as goal
 
 pub invariant_of-self-in_err-reply : goal.invariant_of-self-in_err-reply
 invariant_of-self-in_err-reply c = stayed c.self.inside _ c.self.invariant record {
+  opening = search rules;
   programs = search rules;
   schedule = search rules;
   replies = search rules;
@@ -24,7 +25,7 @@ invariant_of-self-in_err-reply c = stayed c.self.inside _ c.self.invariant recor
 
 -- what the advance changed, in the words of the lemmas
 changed : (c : goal.After-self-1) → AdvancedBy c.args.s c.place-place.result c.index-lines-done.result c.in_ok-reply.reply c.self.inside
-    (record { programs = c.self.inside.programs; lines_done = with_item c.self.inside.lines_done c.place-place.result (c.index-done.result.now + 1); schedule = c.push_reserved.new.self; replies = c.push_reserved-2.new.self; engine = c.step.new.self })
+    (record { opening = c.self.inside.opening; programs = c.self.inside.programs; lines_done = with_item c.self.inside.lines_done c.place-place.result (c.index-done.result.now + 1); schedule = c.push_reserved.new.self; replies = c.push_reserved-2.new.self; engine = c.step.new.self })
 changed c =
     let session : c.args.s ≡ c.place-place.result + 1 = search rules in
     let low : c.place-place.result < 16 = omega arith in
@@ -44,6 +45,7 @@ changed c =
       session = session;
       within = low;
       line = rw (← here) line;
+      opening = refl;
       programs = refl;
       schedule = rw (c.push_reserved.ensures.items, c.reserve.ensures.items) refl;
       replies = rw (c.push_reserved-2.ensures.items, c.reserve-2.ensures.items) refl;

@@ -1,7 +1,7 @@
 use Rattle.std.proofs.Common.{◌+◌, List, sym, subst}
 use Rattle.lo_machine.specs.declared.variables.Variables.{Variables}
 use Rattle.lo_machine.proofs.NoVariables.{AreNoneBelow, one_more}
-use Rattle.lo_machine.proofs.engine.new_variables.Goals as goal
+use Rattle.lo_machine.proofs.loading.new_variables.Goals as goal
 
 pub loop-session-preserved : goal.loop-session-preserved
 loop-session-preserved c =

@@ -1,5 +1,5 @@
 use Rattle.lo_machine.proofs.NewEngine.{AreNewBelow}
-use Rattle.lo_machine.proofs.engine.new_sessions.Given as goal
+use Rattle.lo_machine.proofs.loading.new_sessions.Given as goal
 
 abbrev pub invariant-loop-number : goal.invariant-loop-number
 invariant-loop-number l = AreNewBelow l.number l.sessions.items
