@@ -1,3 +1,4 @@
 mod Examples
+pub mod Stops
 pub mod PiecesOfText
 pub mod Statuses

@@ -1,34 +1,28 @@
 -- Which status a command ends with and what it leaves then, from how each of its parts ended.
 use Rattle.std.proofs.Common.{◌≡◌, ℕ, ◌<◌, ◌≤◌, List, Some, None, refl, ap, sym, ◌∙◌, subst, length, arith}
-use Rattle.std.specs.Prelude.{Option, Result, IsTrue}
-use Rattle.std.proofs.lemmas.Result.{IfOk-weaker, IfErr-weaker}
+use Rattle.std.specs.Prelude.{Option, Ok, Err, IsSome, IsTrue, option_map}
 use Rattle.lo_outside.specs.Faults.{Rose}
 use Rattle.lo_outside.specs.Files.{File, bytes_of}
+use Rattle.lo_image.specs.declared.fault.BadImage.{BadImage as Fault_}
+use Rattle.lo_image.specs.declared.fault.ImageError.TheVariants.{Bad}
+use Rattle.lo_image.specs.Image.{image}
+use Rattle.lo_image.specs.Reading.{Answers}
+use Rattle.lo_image.proofs.ImageLaws.{only_is}
+use Rattle.lo_opening.specs.Opening.{IsOpening, OpeningData}
 use Rattle.lo_script.specs.Script.{ScriptText, script_of}
 use Rattle.lo_tool.specs.declared.run.Status.{Status}
 use Rattle.lo_tool.specs.declared.run.Status.TheVariants.{Done, Refused, Usage, BadInput, Fault, NoMemory}
-use Rattle.lo_tool.specs.declared.stop.Stop.{Stop}
-use Rattle.lo_tool.specs.declared.stop.Stop.TheVariants.{BadInput as Input, Fault as Failed_, NoMemory as OutOfMemory}
-use Rattle.lo_tool.specs.Command.{Command, RunScript, command_of}
-use Rattle.lo_tool.specs.Commands.{IsBadInput, HasInput}
+use Rattle.lo_tool.specs.Command.{Command, Init, RunScript, RunScriptOn, command_of}
+use Rattle.lo_tool.specs.Commands.{IsBadInput, IsMadeBy, HasInput}
+use Rattle.lo_tool.specs.Finishing.{Finishes, Saved_, Starved, Unsaved}
+use Rattle.lo_tool.specs.Images.{BadImage, GoodImage, IsNoImage, NoImage, NotThere}
+use Rattle.lo_tool.specs.Made.{FilesAre, FilesLeft, LeavesImage, Made, Saved, image_saved}
 use Rattle.lo_tool.specs.Outside.{Outside, FilesState, SinkState, Took, TookFront, TookNothing, FilesStay, IsFaultless, Failing, FilesFailed, OutFailed, ErrFailed, last_count, content}
 use Rattle.lo_tool.specs.Printing.{Complains, Said, Failed, Prints, Printed, Lost}
-use Rattle.lo_tool.specs.Reading.{IsStop, RunsBytes, RunsFile}
-use Rattle.lo_tool.specs.ScriptFile.{RunsTo, PrintsScript, IsReadWithin, IsOutsideGrammar, BadScript, Missing, TooLong, OutsideGrammar, GoodScript}
-use Rattle.lo_tool.specs.Status.{IsText, IsInputLine, IsDone, IsUsage, IsRefusedInput, IsFault, IsNoMemory, IsErrorLine, FaultLine, UsageLine, InputLine, SaidFront, IsRunnable, EndsWell, Completed, WantsMemory, Leaves, LeavesDone, LeavesUsage, LeavesInput, LeavesFault, LeavesNoMemory}
+use Rattle.lo_tool.specs.ScriptFile.{BadPair, BadScript, GoodPair, GoodScript, Missing, OfImage, OfScript, OutsideGrammar, TooLong}
+use Rattle.lo_tool.specs.Status.{IsMade, IsInputLine, IsDone, IsUsage, IsRefusedInput, IsFault, IsNoMemory, IsErrorLine, FaultLine, UsageLine, InputLine, SaidFront, IsRunnable, EndsWell, Completed, WantsMemory, Leaves, LeavesDone, LeavesUsage, LeavesInput, LeavesFault, LeavesNoMemory}
 use Rattle.lo_tool.specs.Texts.{usage_line, fault_line}
-
-bad_script : (files : FilesState) (name bytes : List ℕ) → IsReadWithin files name bytes → (stop : Stop) → IsStop (IsOutsideGrammar name bytes) stop → IsStop (BadScript files name) stop
-bad_script files name bytes read (Input line) outside = OutsideGrammar bytes read outside
-bad_script files name bytes read Failed_ h = tt
-bad_script files name bytes read OutOfMemory h = tt
-
--- a file that was read, and then run
-pub runs_file : (files : FilesState) (name bytes : List ℕ) (result : Result (List ℕ) Stop) → IsReadWithin files name bytes → RunsBytes name bytes result → RunsFile files name result
-runs_file files name bytes result read runs = record {
-  ok = IfOk-weaker result (RunsTo bytes) (PrintsScript files name) (λ text run. record { bytes = bytes; read = read; run = run }) runs.ok;
-  err = IfErr-weaker result (IsStop (IsOutsideGrammar name bytes)) (IsStop (BadScript files name)) (bad_script files name bytes read) runs.err;
-}
+use Rattle.lo_tool.proofs.Stops.{same_state}
 
 -- what is outside, in its three parts
 abbrev three : FilesState → SinkState → SinkState → Outside
@@ -39,6 +33,12 @@ same_taken old = record { nothing = λ tells. refl }
 
 same_files : (old new : FilesState) → new.folder ≡ old.folder → FilesStay old new
 same_files old new same = record { stays = λ name. ap (λ (folder : List ℕ → Option File). folder name) same }
+
+-- no file changed, so none did that a failed command must leave
+left_alone : (image : Option (List ℕ)) (old new : FilesState) → new.folder ≡ old.folder → FilesLeft image old new
+left_alone None old new same = same_files old new same
+left_alone (Some image) old new same =
+    ((λ below count. same_files old new same), record { others = λ tells other is_other. ap (λ (folder : List ℕ → Option File). folder other) same })
 
 -- a count that rose is greater, below the last value
 not_greater : (old new : ℕ) → old < last_count → Rose old new → new ≤ old → ⊥
@@ -73,7 +73,8 @@ fault_is err err' result (Failed is front rose) = is
 lost_line : (words : List (List ℕ)) (files files' : FilesState) (out err err' : SinkState) (line : List ℕ) → IsErrorLine words files line → files'.folder ≡ files.folder → TookFront line err err' → Rose err.faults err'.faults → IsFault words (three files out err) (three files' out err')
 lost_line words files files' out err err' line kind folder front rose = record {
   cause = ErrFailed rose;
-  files = same_files files files' folder;
+  unsaved = λ none. same_files files files' folder;
+  files = λ below greater. left_alone (image_saved (command_of words)) files files' folder;
   no_output = λ below greater. same_taken out;
   output = λ greater. absurd (not_less out.faults greater);
   said = λ below greater. absurd (not_greater err.faults err'.faults below rose greater);
@@ -102,7 +103,8 @@ leaves_fault words files files' out err err' result folder rose complains =
     let says : SaysFault words (three files out err) (three files' out err') = says_fault words (three files out err) (three files' out err') result complains in
     LeavesFault (fault_is err err' result complains) (record {
       cause = FilesFailed rose;
-      files = same_files files files' folder;
+      unsaved = λ none. same_files files files' folder;
+      files = λ below greater. left_alone (image_saved (command_of words)) files files' folder;
       no_output = λ below greater. same_taken out;
       output = λ greater. absurd (not_less out.faults greater);
       said = says.said;
@@ -115,27 +117,80 @@ leaves_no_memory words command files files' out err is folder count =
     LeavesNoMemory refl (record { command = command; is = is; files = same_files files files' folder; no_output = same_taken out; no_error = same_taken err })
     (record { files_count = count; out_count = refl; err_count = refl })
 
--- the text was printed, or standard output failed in it
-pub leaves_text : (words : List (List ℕ)) (files files' : FilesState) (out out' err err' : SinkState) (text : List ℕ) (result : Status) → IsText words files text → files'.folder ≡ files.folder → files'.faults ≡ files.faults → Prints text out out' err err' result → Leaves words (three files out err) (three files' out' err') result
-leaves_text words files files' out out' err err' text result made folder count (Printed is took same quiet) =
-    LeavesDone is (record {
-      text = text;
+-- ---- what was made, saved and printed
+
+name_in : Saved → List ℕ
+name_in saved = saved.name
+
+-- a command saves under the name that it is to save
+saved_name : (command : Command) (files : FilesState) (made : Made) → IsMadeBy command files made → image_saved (Some command) ≡ option_map name_in made.saved
+unfolding name_in
+saved_name (Init image blocks) files made by = sym (ap (option_map name_in) by.saved)
+saved_name (RunScript file) files made by = sym (ap (option_map name_in) by.unsaved)
+saved_name (RunScriptOn image file) files made by = sym (ap (option_map name_in) by.saved)
+
+none_saved : (saved : Option Saved) (old new : FilesState) → option_map name_in saved ≡ None → FilesAre saved old new → FilesStay old new
+none_saved None old new none are = are
+none_saved (Some saved) old new none are = cc
+
+-- a text was printed once the image was saved, or standard output failed in it
+leaves_text : (words : List (List ℕ)) (before after : Outside) (made : Made) (result : Status) → IsMade words before.files made → image_saved (command_of words) ≡ option_map name_in made.saved → FilesAre made.saved before.files after.files → after.files.faults ≡ before.files.faults → Prints made.text before.out after.out before.err after.err result → Leaves words before after result
+leaves_text words before after made result is named are count (Printed done took same quiet) =
+    LeavesDone done (record {
       made = made;
-      files = same_files files files' folder;
+      is = is;
+      files = are;
       printed = took;
       no_error = record { nothing = λ tells. ap (λ (sink : SinkState). sink.taken) quiet };
     })
     (record { files_count = count; out_count = same; err_count = ap (λ (sink : SinkState). sink.faults) quiet })
-leaves_text words files files' out out' err err' text result made folder count (Lost is front rose complains) =
-    let says : SaysFault words (three files out err) (three files' out' err') = says_fault words (three files out err) (three files' out' err') result complains in
-    LeavesFault is (record {
+leaves_text words before after made result is named are count (Lost lost front rose complains) =
+    let says : SaysFault words before after = says_fault words before after result complains in
+    LeavesFault lost (record {
       cause = OutFailed rose;
-      files = same_files files files' folder;
-      no_output = λ below greater. absurd (not_greater out.faults out'.faults below rose greater);
-      output = λ greater. record { text = text; made = made; printed = front };
+      unsaved = λ none. none_saved made.saved before.files after.files (sym named ∙ none) are;
+      files = λ below same. absurd (not_greater before.out.faults after.out.faults below rose same);
+      no_output = λ below same. absurd (not_greater before.out.faults after.out.faults below rose same);
+      output = λ greater. record { made = made; is = is; files = are; printed = front };
       said = says.said;
       said_front = says.said_front;
     })
+
+left_behind : (image : Option (List ℕ)) (saved : Saved) (old new : FilesState) → image ≡ Some saved.name → Rose old.faults new.faults → LeavesImage saved.name old new → FilesLeft image old new
+left_behind image saved old new is rose leaves = subst (λ (given : Option (List ℕ)). FilesLeft given old new) (sym is) ((λ below same. absurd (not_greater old.faults new.faults below rose same)), leaves)
+
+some_is_not_none : (name : List ℕ) → Some name ≡ None → ⊥
+some_is_not_none name h = cc
+
+finishes : (words : List (List ℕ)) (before after : Outside) (made : Made) (result : Status) → IsMade words before.files made → image_saved (command_of words) ≡ option_map name_in made.saved → Finishes made before after result → Leaves words before after result
+unfolding name_in
+finishes words before after made result is named (Saved_ are count prints) = leaves_text words before after made result is named are count prints
+finishes words before after made result is named (Unsaved saved is_saved leaves rose quiet complains) =
+    let says : SaysFault words before after = says_fault words before after result complains in
+    let name : image_saved (command_of words) ≡ Some saved.name = named ∙ ap (option_map name_in) is_saved in
+    LeavesFault (fault_is before.err after.err result complains) (record {
+      cause = FilesFailed rose;
+      unsaved = λ none. absurd (some_is_not_none saved.name (sym name ∙ none));
+      files = λ below same. left_behind (image_saved (command_of words)) saved before.files after.files name rose leaves;
+      no_output = λ below same. record { nothing = λ tells. ap (λ (sink : SinkState). sink.taken) quiet };
+      output = λ greater. absurd (same_not_greater before.out.faults after.out.faults (ap (λ (sink : SinkState). sink.faults) quiet) greater);
+      said = says.said;
+      said_front = says.said_front;
+    })
+finishes words before after made result is named (Starved starved folder count quiet silent) =
+    LeavesNoMemory starved (record {
+      command = is.command;
+      is = is.is;
+      files = same_files before.files after.files folder;
+      no_output = record { nothing = λ tells. ap (λ (sink : SinkState). sink.taken) quiet };
+      no_error = record { nothing = λ tells. ap (λ (sink : SinkState). sink.taken) silent };
+    })
+    (record { files_count = count; out_count = ap (λ (sink : SinkState). sink.faults) quiet; err_count = ap (λ (sink : SinkState). sink.faults) silent })
+
+pub leaves_made : (words : List (List ℕ)) (files mid : FilesState) (out err : SinkState) (after : Outside) (made : Made) (result : Status) → IsMade words files made → mid.tells ≡ files.tells → mid.folder ≡ files.folder → mid.faults ≡ files.faults → Finishes made (three mid out err) after result → Leaves words (three files out err) after result
+leaves_made words files mid out err after made result is tells folder count ends =
+    finishes words (three files out err) after made result is (ap image_saved is.is ∙ saved_name is.command files made is.by)
+    (subst (λ (state : FilesState). Finishes made (three state out err) after result) (same_state files mid tells folder count) ends)
 
 -- what a status says
 abbrev pub Says : (words : List (List ℕ)) (before after : Outside) → Status → Type 0
@@ -184,9 +239,34 @@ good_is_not_bad files name line tells good (OutsideGrammar read is_read outside)
     let same : read ≡ good.bytes = same_some read good.bytes (sym (is_read.read.told tells) ∙ good.there) in
     no_script good.script (sym outside.none ∙ (ap script_of same ∙ good.spells))
 
+-- reading an image does not fail
+no_error : (opening : OpeningData) (fault : Fault_) → Answers (Err (Bad fault)) (Ok opening) → ⊥
+no_error opening fault h = cc
+
+no_other : (bytes : List ℕ) (fault : Fault_) (opening : OpeningData) → IsOpening opening → bytes ≡ image opening → IsNoImage bytes fault → ⊥
+no_other bytes fault opening rules is none =
+    absurd (no_error opening fault (only_is bytes (Err (Bad fault)) none opening rules is))
+
+-- no line is said of a file that holds an image
+image_is_not_bad : (files : FilesState) (name line : List ℕ) → IsTrue files.tells → GoodImage files name → BadImage files name line → ⊥
+image_is_not_bad files name line tells good (NotThere gone said) = none_is_not_some (image good.opening) (sym (ap content (gone tells)) ∙ good.there)
+image_is_not_bad files name line tells good (NoImage read is_read fault none said) =
+    let same : read ≡ image good.opening = same_some read (image good.opening) (sym (is_read.told tells) ∙ good.there) in
+    no_other (image good.opening) fault good.opening good.rules refl (subst (λ (bytes : List ℕ). IsNoImage bytes fault) same none)
+
+pair_is_not_bad : (files : FilesState) (image_name name line : List ℕ) → IsTrue files.tells → GoodPair files image_name name → BadPair files image_name name line → ⊥
+pair_is_not_bad files image_name name line tells good (OfImage bad) = image_is_not_bad files image_name line tells good.kept bad
+pair_is_not_bad files image_name name line tells good (OfScript opening kept bad) = good_is_not_bad files name line tells good.script bad
+
+free_is_not_taken : (file : Option File) → file ≡ None → IsSome file → ⊥
+free_is_not_taken None free there = cc
+free_is_not_taken (Some file) free there = cc
+
 -- the same of every command
 input_is_not_bad : (command : Command) (files : FilesState) (line : List ℕ) → IsTrue files.tells → HasInput command files → IsBadInput command files line → ⊥
+input_is_not_bad (Init image blocks) files line tells good bad = free_is_not_taken (files.folder image) good (bad.there tells)
 input_is_not_bad (RunScript file) files line tells good bad = good_is_not_bad files file line tells good bad
+input_is_not_bad (RunScriptOn image file) files line tells good bad = pair_is_not_bad files image file line tells good bad
 
 not_said : (words : List (List ℕ)) (files : FilesState) (line : List ℕ) → IsRunnable words files → IsInputLine words files line → ⊥
 not_said words files line runnable bad =

@@ -1,6 +1,9 @@
 pub mod Command
 pub mod Commands
+pub mod Finishing
+pub mod Images
 pub mod Loops
+pub mod Made
 pub mod Outside
 pub mod Printing
 pub mod Reading

@@ -1,12 +1,19 @@
--- Why a command comes to no text, and what that says of its files.
-use Rattle.std.specs.Prelude.{◌≡◌, ℕ, List, Result, IfOk, IfErr, OnOk}
+-- What a command makes in code, why it may make nothing, and what that says of its files.
+use Rattle.std.specs.Prelude.{◌≡◌, ℕ, List, Result, IfOk, IfErr, OnOk, option_map}
+use Rattle.lo_image.specs.Image.{image}
+use Rattle.lo_opening.specs.Meaning.{opening_of}
+use Rattle.lo_opening.specs.Opening.{OpeningData}
 use Rattle.lo_outside.specs.Faults.{Rose}
 use Rattle.lo_tool.specs.declared.stop.Stop.{Stop}
 use Rattle.lo_tool.specs.declared.stop.Stop.TheVariants.{BadInput, Fault, NoMemory}
 use Rattle.lo_tool.specs.Command.{Command}
-use Rattle.lo_tool.specs.Commands.{IsTextOf, IsBadInput}
+use Rattle.lo_tool.specs.Commands.{IsMadeBy, IsBadInput}
+use Rattle.lo_tool.specs.Made.{Made, Saved, saved_under}
 use Rattle.lo_tool.specs.Outside.{FilesState}
-use Rattle.lo_tool.specs.ScriptFile.{BadScript, RunsTo, PrintsScript, IsOutsideGrammar}
+use Rattle.lo_tool.specs.ScriptFile.{RunsTo, IsOutsideGrammar}
+use Rattle.lo_tool.specs.declared.made.Made.{Made as CodeMade}
+use Rattle.lo_tool.specs.declared.made.Saving.{Saving}
+use Rattle.lo_tool.specs.declared.playing.Ran.{Ran}
 
 -- what a stop says of a file
 abbrev pub IsStop : (bad : List ℕ → Type 0) → Stop → Type 0
@@ -37,20 +44,22 @@ IsNoInput (BadInput line) = ⊥
 IsNoInput Fault = Unit {0}
 IsNoInput NoMemory = Unit {0}
 
--- the text of the run of bytes, or why there is none: they are outside the grammar, or no memory
-pub record RunsBytes (name bytes : List ℕ) (result : Result (List ℕ) Stop) : Type 0 where
-  pub ok : IfOk result (RunsTo bytes)
+-- the run of bytes on an opening, or why there is none: they are outside the grammar, or no memory
+pub record RunsBytes (opening : OpeningData) (name bytes : List ℕ) (result : Result Ran Stop)
+    : Type 0 where
+  pub ok : IfOk result (λ ran. RunsTo (opening_of opening) bytes ran.text (opening_of ran.opening))
   pub err : IfErr result (IsStop (IsOutsideGrammar name bytes))
   pub no_fault : IfErr result IsNoFault
 
--- the same of a file
-pub record RunsFile (files : FilesState) (name : List ℕ) (result : Result (List ℕ) Stop)
-    : Type 0 where
-  pub ok : IfOk result (PrintsScript files name)
-  pub err : IfErr result (IsStop (BadScript files name))
+-- what was made, as the definitions have it
+abbrev pub saved_of : Saving → Saved
+saved_of saving = saved_under saving.image.now (image saving.opening)
 
--- the text of a command, or why there is none
-pub record Makes (command : Command) (files : FilesState) (result : Result (List ℕ) Stop)
+abbrev pub made_of : CodeMade → Made
+made_of made = record { text = made.text; saved = option_map saved_of made.saved }
+
+-- what a command makes, or why it makes nothing
+pub record Makes (command : Command) (files : FilesState) (result : Result CodeMade Stop)
     : Type 0 where
-  pub ok : IfOk result (IsTextOf command files)
+  pub ok : IfOk result (λ made. IsMadeBy command files (made_of made))
   pub err : IfErr result (IsStop (IsBadInput command files))

@@ -1,9 +1,19 @@
--- The file of a script: what its run prints, and why it may be of no use.
-use Rattle.std.specs.Prelude.{◌≡◌, ℕ, ◌<◌, ◌≤◌, List, length, Some, None, IsTrue}
-use Rattle.lo_machine.specs.Run.{IsWhole, replies_of, schedule_of}
+-- The file of a script: what its run prints and leaves, and why it may be of no use.
+use Rattle.std.specs.Prelude.{◌≡◌, ℕ, ◌<◌, ◌≤◌, List, [], length, Some, None, IsTrue}
+use Rattle.lo_image.specs.Image.{image}
+use Rattle.lo_base.specs.declared.request.Request.{Request}
+use Rattle.lo_machine.specs.declared.running.Finished.{Finished}
+use Rattle.lo_machine.specs.Committed.{committed_opening}
+use Rattle.lo_machine.specs.Run.{IsWholeFrom, Moment, end_from, replies_from, schedule_from, start_from}
+use Rattle.lo_model.specs.Opening.{Opening}
+use Rattle.lo_opening.specs.Meaning.{data_of, opening_of}
+use Rattle.lo_opening.specs.Opening.{OpeningData}
 use Rattle.lo_outside.specs.Files.{bytes_of}
 use Rattle.lo_script.specs.ReplyText.{lines_of}
 use Rattle.lo_script.specs.Script.{IsFirstBad, ScriptText, script_of}
+use Rattle.lo_tool.specs.Command.{usual_blocks}
+use Rattle.lo_tool.specs.Images.{BadImage, GoodImage, IsFree, IsKept, empty_data}
+use Rattle.lo_tool.specs.Made.{Made, saved_under}
 use Rattle.lo_tool.specs.Outside.{FilesState, IsRead, content}
 use Rattle.lo_tool.specs.Texts.{line_about, missing, too_long, bad_line_text}
 
@@ -11,24 +21,60 @@ use Rattle.lo_tool.specs.Texts.{line_about, missing, too_long, bad_line_text}
 abbrev pub most_bytes : ℕ
 most_bytes = 67108864
 
--- The text of a run of some bytes: they spell a script, whose schedule does every line of every session once and in order, and
--- the lines are those of the replies that the machine gives over that schedule.
-pub record RunsTo (bytes text : List ℕ) : Type 0 where
+-- the schedule of a script that is run on an opening, and where it ends
+abbrev pub schedule_on : Opening → ScriptText → List ℕ
+schedule_on opening script = schedule_from script.programs (start_from opening) script.order
+
+abbrev pub end_on : Opening → ScriptText → Moment
+end_on opening script = end_from script.programs (start_from opening) (schedule_on opening script)
+
+-- A run of programs over a schedule, from an opening: its replies, and what is committed at its end.
+pub record PlaysTo (opening : Opening) (programs : List (List Request)) (schedule : List ℕ) (end : Finished)
+    : Type 0 where
+  pub replies : end.replies ≡ replies_from programs (start_from opening) schedule
+  pub left :
+      opening_of end.opening
+      ≡ committed_opening opening.blocks (end_from programs (start_from opening) schedule).state
+
+-- A run of a script's bytes on an opening: they spell a script, whose schedule does every line of every session once and in
+-- order; the text is the lines of the replies that the machine gives over that schedule, and what is left is what is committed at
+-- its end.
+pub record RunsTo (opening : Opening) (bytes text : List ℕ) (left : Opening) : Type 0 where
   pub script : ScriptText
   pub spells : script_of bytes ≡ Some script
-  pub whole : IsWhole script.programs (schedule_of script.programs script.order)
-  pub replies : text ≡ lines_of (replies_of script.programs (schedule_of script.programs script.order))
+  pub whole : IsWholeFrom script.programs (start_from opening) (schedule_on opening script)
+  pub replies : text ≡ lines_of (replies_from script.programs (start_from opening) (schedule_on opening script))
+  pub committed : left ≡ committed_opening opening.blocks (end_on opening script).state
 
 -- the bytes of a file that is there and not too long
 pub record IsReadWithin (files : FilesState) (name bytes : List ℕ) : Type 0 where
   pub read : IsRead files name bytes
   pub within : length bytes ≤ most_bytes
 
--- The text of the run of a file, of the bytes that its reads gave.
-pub record PrintsScript (files : FilesState) (name text : List ℕ) : Type 0 where
+-- What `script - FILE` makes: the text of the file's run on an empty database. Nothing is saved.
+pub record PrintsScript (files : FilesState) (name : List ℕ) (made : Made) : Type 0 where
   pub bytes : List ℕ
   pub read : IsReadWithin files name bytes
-  pub run : RunsTo bytes text
+  pub left : Opening
+  pub run : RunsTo (opening_of (empty_data usual_blocks)) bytes made.text left
+  pub unsaved : made.saved ≡ None
+
+-- What `script IMAGE FILE` makes: the text of the file's run on the database of the image, and the image of what is committed at
+-- the end.
+pub record SavesScript (files : FilesState) (image_name name : List ℕ) (made : Made) : Type 0 where
+  pub opening : OpeningData
+  pub kept : IsKept files image_name opening
+  pub bytes : List ℕ
+  pub read : IsReadWithin files name bytes
+  pub left : Opening
+  pub run : RunsTo (opening_of opening) bytes made.text left
+  pub saved : made.saved ≡ Some (saved_under image_name (image (data_of left)))
+
+-- What `init IMAGE` makes: no text, and the image of an empty database, where no file of the name is there.
+pub record SavesEmpty (files : FilesState) (image_name : List ℕ) (blocks : ℕ) (made : Made) : Type 0 where
+  pub free : IsFree files image_name
+  pub quiet : made.text ≡ []
+  pub saved : made.saved ≡ Some (saved_under image_name (image (empty_data blocks)))
 
 -- A line says where some bytes are outside the grammar: at the first line that is, and the column of the first token there
 -- that is not allowed.
@@ -59,3 +105,15 @@ pub record GoodScript (files : FilesState) (name : List ℕ) : Type 0 where
   pub there : content (files.folder name) ≡ Some bytes
   pub within : length bytes ≤ most_bytes
   pub spells : script_of bytes ≡ Some script
+
+-- Why one of the two files of `script IMAGE FILE` cannot be used. The script is looked at where the image can be used.
+pub data BadPair (files : FilesState) (image_name name line : List ℕ) : Type 0 where
+  OfImage : BadImage files image_name line → BadPair files image_name name line
+  OfScript :
+      (opening : OpeningData) → IsKept files image_name opening → BadScript files name line →
+      BadPair files image_name name line
+
+-- both can be used
+pub record GoodPair (files : FilesState) (image_name name : List ℕ) : Type 0 where
+  pub kept : GoodImage files image_name
+  pub script : GoodScript files name

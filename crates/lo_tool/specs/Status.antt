@@ -4,15 +4,16 @@ use Rattle.std.specs.Prelude.{◌≡◌, ℕ, ◌<◌, ◌≤◌, List, Some, No
 use Rattle.lo_tool.specs.declared.run.Status.{Status}
 use Rattle.lo_tool.specs.declared.run.Status.TheVariants.{Done, Usage, BadInput, Fault, NoMemory}
 use Rattle.lo_tool.specs.Command.{Command, command_of}
-use Rattle.lo_tool.specs.Commands.{IsTextOf, IsBadInput, HasInput}
+use Rattle.lo_tool.specs.Commands.{IsMadeBy, IsBadInput, HasInput}
+use Rattle.lo_tool.specs.Made.{FilesAre, FilesLeft, Made, image_saved}
 use Rattle.lo_tool.specs.Outside.{Outside, FilesState, Took, TookFront, TookNothing, FilesStay, IsFaultless, Failing, last_count}
 use Rattle.lo_tool.specs.Texts.{usage_line, fault_line}
 
--- the words are a command, and the text is what it prints
-pub record IsText (words : List (List ℕ)) (files : FilesState) (text : List ℕ) : Type 0 where
+-- the words are a command, and this is what it makes
+pub record IsMade (words : List (List ℕ)) (files : FilesState) (made : Made) : Type 0 where
   pub command : Command
   pub is : command_of words ≡ Some command
-  pub made : IsTextOf command files text
+  pub by : IsMadeBy command files made
 
 -- the words are a command, and the line says why a file of it cannot be used
 pub record IsInputLine (words : List (List ℕ)) (files : FilesState) (line : List ℕ) : Type 0 where
@@ -20,12 +21,12 @@ pub record IsInputLine (words : List (List ℕ)) (files : FilesState) (line : Li
   pub is : command_of words ≡ Some command
   pub bad : IsBadInput command files line
 
--- Done: standard output took the text of the command
+-- Done: standard output took the text of the command, and the image that it saves is saved
 pub record IsDone (words : List (List ℕ)) (before after : Outside) : Type 0 where
-  pub text : List ℕ
-  pub made : IsText words before.files text
-  pub files : FilesStay before.files after.files
-  pub printed : Took text before.out after.out
+  pub made : Made
+  pub is : IsMade words before.files made
+  pub files : FilesAre made.saved before.files after.files
+  pub printed : Took made.text before.out after.out
   pub no_error : TookNothing before.err after.err
 
 -- Usage: the words are no command
@@ -55,18 +56,23 @@ pub record SaidFront (words : List (List ℕ)) (before after : Outside) : Type 0
   pub kind : IsErrorLine words before.files line
   pub said : TookFront line before.err after.err
 
--- a front of the command's text was printed
+-- the image that the command saves is saved, and a front of its text was printed
 pub record PrintedFront (words : List (List ℕ)) (before after : Outside) : Type 0 where
-  pub text : List ℕ
-  pub made : IsText words before.files text
-  pub printed : TookFront text before.out after.out
+  pub made : Made
+  pub is : IsMade words before.files made
+  pub files : FilesAre made.saved before.files after.files
+  pub printed : TookFront made.text before.out after.out
 
--- Fault: a count of faults rose. Where that of standard output is greater, a front of the command's text was printed, else
--- nothing. Where that of standard error is not greater, the fault line was said whole, else a front of one line. The last value
--- of a count, at which it stands still, is left out.
+-- Fault: a count of faults rose. Where that of standard output is greater, the image is saved and a front of the command's text
+-- was printed; else nothing was printed, and no file changed, but the new file of an image where files failed. Where that of
+-- standard error is not greater, the fault line was said whole, else a front of one line. The last value of a count, at which it
+-- stands still, is left out.
 pub record IsFault (words : List (List ℕ)) (before after : Outside) : Type 0 where
   pub cause : Failing before after
-  pub files : FilesStay before.files after.files
+  pub unsaved : image_saved (command_of words) ≡ None → FilesStay before.files after.files
+  pub files :
+      before.out.faults < last_count → after.out.faults ≤ before.out.faults →
+      FilesLeft (image_saved (command_of words)) before.files after.files
   pub no_output :
       before.out.faults < last_count → after.out.faults ≤ before.out.faults →
       TookNothing before.out after.out

@@ -1,5 +1,8 @@
 -- What is printed to standard error.
 use Rattle.std.specs.Prelude.{ℕ, List, ◌++◌, codes, decimal}
+use Rattle.lo_image.specs.declared.fault.BadImage.{BadImage}
+use Rattle.lo_image.specs.declared.fault.Defect.{Defect}
+use Rattle.lo_image.specs.declared.fault.Defect.TheVariants.{Magic, Short, Range, Order, Mismatch, Plan, Array, Extra}
 
 abbrev pub usage_line : List ℕ
 usage_line = codes "usage: lo_tool init|script|threads|vacuumlo|import|export|list|unlink|gen\n"
@@ -19,3 +22,20 @@ too_long = codes "too long"
 
 abbrev pub bad_line_text : (line column : ℕ) → List ℕ
 bad_line_text line column = codes "line " ++ decimal line ++ codes " column " ++ decimal column
+
+abbrev pub file_exists : List ℕ
+file_exists = codes "file exists"
+
+abbrev pub defect_name : Defect → List ℕ
+defect_name Magic = codes "Magic"
+defect_name Short = codes "Short"
+defect_name Range = codes "Range"
+defect_name Order = codes "Order"
+defect_name Mismatch = codes "Mismatch"
+defect_name Plan = codes "Plan"
+defect_name Array = codes "Array"
+defect_name Extra = codes "Extra"
+
+-- where an image is wrong, counted in bytes from 0, and how
+abbrev pub bad_image_text : BadImage → List ℕ
+bad_image_text bad = codes "bad image at " ++ decimal bad.offset ++ codes ": " ++ defect_name bad.kind

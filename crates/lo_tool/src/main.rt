@@ -1,10 +1,13 @@
 //! `lo_tool`: large objects as PostgreSQL has them, on the command line.
 #![tactic(auto)]
 
+mod made;
+mod making;
 mod playing;
 mod printing;
 mod reading;
 mod run;
+mod saving;
 mod stop;
 #[cfg(test)]
 mod tests;

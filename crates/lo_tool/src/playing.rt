@@ -1,19 +1,31 @@
-//! From the bytes of a script to the text of its run.
+//! From the bytes of a script to the text of its run, and the database that it leaves.
 ghost use Rattle.std.specs.Prelude.{◌≡◌, IfOk};
-ghost use Rattle.lo_machine.specs.Run.{replies_of, schedule_of, IsOrderOf, IsWhole};
+ghost use Rattle.lo_machine.specs.Committed.{committed_opening};
+ghost use Rattle.lo_machine.specs.Run.{IsOrderOf, IsWholeFrom, end_from, replies_from, start_from};
+ghost use Rattle.lo_opening.specs.Meaning.{opening_of};
 ghost use Rattle.lo_script.specs.ReplyText.{lines_of};
+ghost use Rattle.lo_script.specs.Script.{script_with};
 ghost use Rattle.lo_tool.specs.Reading.{RunsBytes};
+ghost use Rattle.lo_tool.specs.ScriptFile.{PlaysTo, schedule_on};
 
 use crate::stop::Stop;
 use crate::text::{bad_line_text, line_about};
 use lo_base::{Bytes, NoMemory, Reply, SessionNo};
 use lo_machine::{Finished, Running, orders_are_whole, served_lines_take_one_advance};
+use lo_opening::Opening;
 use lo_script::{Script, ScriptError, read_script, reply_text};
 use std::alloc::Global;
 
-/// The text of a script's run: one line for each reply, in the order of the schedule.
-pub fn run_script(alloc: Global, name: &str, bytes: &[u8]) -> Result<Bytes, Stop>
-    ensures { RunsBytes name.now bytes.now result }
+/// The text of a run, one line for each reply in the order of the schedule, and the database that is committed at its end.
+#[derive(Drop)]
+pub struct Ran {
+    pub text: Bytes,
+    pub opening: Opening,
+}
+
+/// Runs a script's bytes on a database. The name is that of the script's file.
+pub fn run_script(alloc: Global, opening: Opening, name: &str, bytes: &[u8]) -> Result<Ran, Stop>
+    ensures { RunsBytes opening name.now bytes.now result }
 {
     let script = match read_script(alloc, bytes) {
         Ok(script) => script,
@@ -23,25 +35,32 @@ pub fn run_script(alloc: Global, name: &str, bytes: &[u8]) -> Result<Bytes, Stop
         }
         Err(ScriptError::NoMemory) => return Err(Stop::NoMemory),
     };
-    Ok(text_of(alloc, play(alloc, script)?.replies.items())?)
+    let finished = play(alloc, opening, script)?;
+    Ok(Ran {
+        text: text_of(alloc, finished.replies.items())?,
+        opening: finished.opening,
+    })
 }
 
-/// Runs a script on the empty database, to its end.
-fn play(alloc: Global, script: Script) -> Result<Finished, NoMemory>
+/// Runs a script on a database, to its end.
+fn play(alloc: Global, opening: Opening, script: Script) -> Result<Finished, NoMemory>
     requires { IsOrderOf script.programs script.order }
-    ensures whole { IfOk result (λ finished. IsWhole script.programs (schedule_of script.programs script.order)) }
-    ensures replies { IfOk result (λ finished.
-        finished.replies ≡ replies_of script.programs (schedule_of script.programs script.order)) }
+    ensures whole { IsWholeFrom script.programs (start_from (opening_of opening))
+        (schedule_on (opening_of opening) (script_with script.programs script.order)) }
+    ensures plays { IfOk result (PlaysTo (opening_of opening) script.programs
+        (schedule_on (opening_of opening) (script_with script.programs script.order))) }
 {
-    know_schedule(&script);
-    play_order(alloc, script)
+    know_schedule(&opening, &script);
+    play_order(alloc, opening, script)
 }
 
 /// A script's schedule is its order so far, since each line takes one advance, and it is whole. No request is looked at.
-fn know_schedule(script: &Script)
+fn know_schedule(_opening: &Opening, script: &Script)
     requires { IsOrderOf script.now.programs script.now.order }
-    ensures order { schedule_of script.now.programs script.now.order ≡ script.now.order }
-    ensures whole { IsWhole script.now.programs script.now.order }
+    ensures order { schedule_on (opening_of _opening.now)
+        (script_with script.now.programs script.now.order) ≡ script.now.order }
+    ensures whole { IsWholeFrom script.now.programs (start_from (opening_of _opening.now))
+        script.now.order }
 {
     orders_are_whole();
     served_lines_take_one_advance();
@@ -49,11 +68,11 @@ fn know_schedule(script: &Script)
 }
 
 /// Advances each session of the order once, one after the other.
-fn play_order(alloc: Global, script: Script) -> Result<Finished, NoMemory>
-    requires { IsWhole script.programs script.order }
-    ensures { IfOk result (λ finished. finished.replies ≡ replies_of script.programs script.order) }
+fn play_order(alloc: Global, opening: Opening, script: Script) -> Result<Finished, NoMemory>
+    requires { IsWholeFrom script.programs (start_from (opening_of opening)) script.order }
+    ensures { IfOk result (PlaysTo (opening_of opening) script.programs script.order) }
 {
-    let mut running = Running::start(alloc, script.programs)?;
+    let mut running = Running::start(alloc, opening, script.programs)?;
     for s in script.order.items() {
         running.advance(*s)?;
     }

@@ -1,18 +1,18 @@
-//! The top call. A new command has one arm in `make`, beside those in `words.rt` and in specs/; the clauses of `run` stay.
+//! The top call: what the words ask for is made, then saved, then printed. Its clauses stay as they are for every command.
 ghost use Rattle.std.specs.Prelude.{◌≡◌, ◌≢◌, map, string_bytes};
-ghost use Rattle.lo_tool.specs.Command.{command_meant};
+ghost use Rattle.lo_tool.specs.Finishing.{Finishes};
 ghost use Rattle.lo_tool.specs.Outside.{outside, files_state, TellsAsBefore, IsFaultless, Failing};
-ghost use Rattle.lo_tool.specs.Reading.{HasStopCause, RunsFile, Makes};
+ghost use Rattle.lo_tool.specs.Reading.{made_of};
 ghost use Rattle.lo_tool.specs.Status.{IsDone, IsUsage, IsRefusedInput, IsFault, IsNoMemory, IsRunnable, EndsWell, Leaves};
 
-use crate::playing::run_script;
+use crate::made::Made;
+use crate::making::make;
 use crate::printing::{complain, print, report_fault};
-use crate::reading::read_file;
+use crate::saving::{new_name, save};
 use crate::stop::Stop;
 use crate::text::USAGE;
-use crate::words::{Command, command_of};
-use lo_base::Bytes;
-use lo_outside::{Files, Gate, Sink};
+use crate::words::command_of;
+use lo_outside::{Failed, Files, Gate, Sink};
 use std::alloc::Global;
 use std::marker::Sync;
 use std::thread::Threads;
@@ -34,7 +34,8 @@ pub enum Status {
     NoMemory = 5,
 }
 
-/// Does what the words after the program's name say. The text of a command is printed when all of it is made.
+/// Does what the words after the program's name say. All that a command prints and saves is made before a file changes; then the
+/// image is saved, and then the text is printed.
 pub fn run<R: Threads + Sync, F: Files, O: Sink, G: Gate + Sync>(
     _rt: &R,
     alloc: Global,
@@ -96,32 +97,36 @@ fn run_words<F: Files, O: Sink>(
         return complain(err, USAGE.as_bytes(), Status::Usage);
     };
     match make(alloc, files, command) {
-        Ok(text) => print(text.items(), out, err),
+        Ok(made) => finish(alloc, &made, files, out, err),
         Err(Stop::BadInput(line)) => complain(err, line.items(), Status::BadInput),
         Err(Stop::Fault) => report_fault(err),
         Err(Stop::NoMemory) => Status::NoMemory,
     }
 }
 
-/// Makes all that a command prints.
-fn make<F: Files>(alloc: Global, files: &mut F, command: Command<'_>) -> Result<Bytes, Stop>
-    ensures makes { Makes (command_meant command.entry) (files_state F.Files files.old) result }
-    ensures cause { HasStopCause (F.faults files.old) (F.faults files.new) result }
-    ensures folder { F.folder files.new ≡ F.folder files.old }
-    ensures tells { F.tells files.new ≡ F.tells files.old }
+/// Saves what a command made, if it saves, and then prints its text.
+fn finish<F: Files, O: Sink>(
+    alloc: Global,
+    made: &Made<'_>,
+    files: &mut F,
+    out: &mut O,
+    err: &mut O,
+) -> Status
+    ensures ends { Finishes (made_of made.now)
+        (outside F.Files O.Sink files.old out.old err.old)
+        (outside F.Files O.Sink files.new out.new err.new) result }
+    ensures tells { TellsAsBefore
+        (outside F.Files O.Sink files.old out.old err.old)
+        (outside F.Files O.Sink files.new out.new err.new) }
 {
-    match command {
-        Command::RunScript { file } => run_file(alloc, files, file),
+    let Some(saving) = &made.saved else {
+        return print(made.text.items(), out, err);
+    };
+    let Ok(name) = new_name(alloc, saving.image) else {
+        return Status::NoMemory;
+    };
+    match save(saving, name.as_str(), files) {
+        Ok(()) => print(made.text.items(), out, err),
+        Err(Failed) => report_fault(err),
     }
-}
-
-/// The text of the run of a script's file.
-fn run_file<F: Files>(alloc: Global, files: &mut F, name: &str) -> Result<Bytes, Stop>
-    ensures runs { RunsFile (files_state F.Files files.old) name.now result }
-    ensures cause { HasStopCause (F.faults files.old) (F.faults files.new) result }
-    ensures folder { F.folder files.new ≡ F.folder files.old }
-    ensures tells { F.tells files.new ≡ F.tells files.old }
-{
-    let bytes = read_file(alloc, files, name)?;
-    run_script(alloc, name, bytes.items())
 }

@@ -6,6 +6,7 @@ mod dialogue;
 mod large;
 mod objects;
 mod refused_memory;
+mod saved;
 mod tables;
 mod transactions;
 
@@ -206,7 +207,14 @@ fn other_words_are_usage(rt: HostRuntime) -> Result<(), Fail> {
         "script - -s",
         "script - ",
         "script - s t",
-        "script s s",
+        "script s -s",
+        "script -s s",
+        "init",
+        "init -s",
+        "init s 0",
+        "init s 02",
+        "init s 262145",
+        "init s 2 3",
         "list s",
         "-n",
     ] {

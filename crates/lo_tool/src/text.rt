@@ -1,9 +1,10 @@
 //! What is said on standard error.
 ghost use Rattle.std.specs.Prelude.{◌≡◌, IfOk};
-ghost use Rattle.lo_tool.specs.Texts.{line_about, bad_line_text};
+ghost use Rattle.lo_tool.specs.Texts.{line_about, bad_image_text, bad_line_text, defect_name};
 
 use itoa::Buffer;
 use lo_base::{Bytes, NoMemory};
+use lo_image::{BadImage, Defect};
 use lo_script::BadLine;
 use std::alloc::Global;
 
@@ -36,4 +37,32 @@ pub fn bad_line_text(alloc: Global, bad: BadLine) -> Result<Bytes, NoMemory>
     text.extend(b" column ")?;
     text.extend(number.format(bad.column).as_bytes())?;
     Ok(text)
+}
+
+/// Where an image is wrong, counted in bytes from 0, and how.
+pub fn bad_image_text(alloc: Global, bad: BadImage) -> Result<Bytes, NoMemory>
+    ensures { IfOk result (λ text. text ≡ bad_image_text bad) }
+{
+    let mut number = Buffer::new();
+    let mut text = Bytes::from_slice(alloc, b"bad image at ")?;
+    text.extend(number.format(bad.offset).as_bytes())?;
+    text.extend(b": ")?;
+    text.extend(defect_name(bad.kind))?;
+    Ok(text)
+}
+
+/// The name of what does not hold of an image's field.
+fn defect_name(kind: Defect) -> &'static [u8]
+    ensures { result.now ≡ defect_name kind }
+{
+    match kind {
+        Defect::Magic => b"Magic",
+        Defect::Short => b"Short",
+        Defect::Range => b"Range",
+        Defect::Order => b"Order",
+        Defect::Mismatch => b"Mismatch",
+        Defect::Plan => b"Plan",
+        Defect::Array => b"Array",
+        Defect::Extra => b"Extra",
+    }
 }

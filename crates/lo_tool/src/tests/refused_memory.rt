@@ -2,6 +2,7 @@
 //! growth is refused in turn outside the gate, by `rt try --test --fail-alloc N`.
 use lo_base::{Bytes, NoMemory, Reply, SessionNo};
 use lo_machine::{Running, Schedule};
+use lo_opening::Opening;
 use lo_script::{read_script, reply_text};
 use std::alloc::Global;
 use std::test::Fail;
@@ -138,7 +139,8 @@ D: VACUUM
 /// The script before its first advance, with its order.
 fn start(alloc: Global) -> Option<(Running, Schedule)> {
     let script = read_script(alloc, SCRIPT.as_bytes()).ok()?;
-    let running = Running::start(alloc, script.programs).ok()?;
+    let empty = Opening::empty(alloc, 65536);
+    let running = Running::start(alloc, empty, script.programs).ok()?;
     Some((running, script.order))
 }
 

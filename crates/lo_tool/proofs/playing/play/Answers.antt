@@ -1,22 +1,16 @@
-use Rattle.std.proofs.Common.{◌≡◌, ℕ, List, subst, sym}
+use Rattle.std.proofs.Common.{ℕ, List, subst, sym}
 use Rattle.std.proofs.lemmas.Result.{IfOk-weaker}
-use Rattle.lo_base.specs.declared.reply.Reply.{Reply}
-use Rattle.lo_base.specs.declared.request.Request.{Request}
-use Rattle.lo_machine.specs.Run.{IsWhole, replies_of}
+use Rattle.lo_machine.specs.Run.{IsWholeFrom, start_from}
+use Rattle.lo_opening.specs.Meaning.{opening_of}
+use Rattle.lo_tool.specs.ScriptFile.{PlaysTo}
 use Rattle.lo_tool.proofs.playing.play.Goals as goal
 
--- the replies over an order are those over a schedule that is the order
-over_schedule : (programs : List (List Request)) (order schedule : List ℕ) (replies : List (ℕ × Reply)) → schedule ≡ order → replies ≡ replies_of programs order → replies ≡ replies_of programs schedule
-over_schedule programs order schedule replies is h = subst (λ (o : List ℕ). replies ≡ replies_of programs o) (sym is) h
-
 pub returns-clause-whole : goal.returns-clause-whole
-returns-clause-whole c =
-    IfOk-weaker c.play_order.result _ _
-    (λ finished h. subst (IsWhole c.args.script.programs) (sym c.know_schedule.ensures.order) c.know_schedule.ensures.whole)
-    c.play_order.ensures
+returns-clause-whole c = subst (λ (schedule : List ℕ). IsWholeFrom c.args.script.programs (start_from (opening_of c.args.opening)) schedule) (sym c.know_schedule.ensures.order) c.know_schedule.ensures.whole
 
-pub returns-clause-replies : goal.returns-clause-replies
-returns-clause-replies c =
+-- what is so over the order is so over the schedule, which is the order
+pub returns-clause-plays : goal.returns-clause-plays
+returns-clause-plays c =
     IfOk-weaker c.play_order.result _ _
-    (λ finished h. over_schedule c.args.script.programs c.args.script.order _ finished.replies c.know_schedule.ensures.order h)
+    (λ finished h. subst (λ (schedule : List ℕ). PlaysTo (opening_of c.args.opening) c.args.script.programs schedule finished) (sym c.know_schedule.ensures.order) h)
     c.play_order.ensures

@@ -1,0 +1,47 @@
+-- What a command makes, from what its parts answered.
+use Rattle.std.proofs.Common.{◌≡◌, ℕ, List, length, take, Option, Some, None, Ok, Err, refl, ap, subst, sym, ◌∙◌, arith}
+use Rattle.std.specs.Prelude.{Result}
+use Rattle.std.proofs.lemmas.List.{take_all}
+use Rattle.std.specs.Result.{IsErr, IsErrAnd}
+use Rattle.lo_opening.specs.Opening.{OpeningData}
+use Rattle.lo_outside.specs.Files.{File, bytes_of, size_of}
+use Rattle.lo_tool.specs.declared.made.Made.{Made as CodeMade}
+use Rattle.lo_tool.specs.declared.stop.Stop.{Stop}
+use Rattle.lo_tool.specs.declared.stop.Stop.TheVariants.{BadInput, Fault as Failed, NoMemory}
+use Rattle.lo_tool.specs.Command.{Command}
+use Rattle.lo_tool.specs.Commands.{IsBadInput}
+use Rattle.lo_tool.specs.Images.{BadImage, IsKept}
+use Rattle.lo_tool.specs.Outside.{FilesState, content}
+use Rattle.lo_tool.specs.Reading.{IsStop, Makes}
+use Rattle.lo_tool.specs.ScriptFile.{BadPair, BadScript, IsOutsideGrammar, IsReadWithin, OfImage, OfScript, OutsideGrammar}
+
+-- files that did not change
+pub same_state : (old new : FilesState) → new.tells ≡ old.tells → new.folder ≡ old.folder → new.faults ≡ old.faults → new ≡ old
+same_state old new tells folder count = rw (← tells, ← folder, ← count) refl
+
+-- a stop says what its line says
+pub stop_weaker : (P Q : List ℕ → Type 0) → ((line : List ℕ) → P line → Q line) → (stop : Stop) → IsStop P stop → IsStop Q stop
+stop_weaker P Q weaker (BadInput line) is = weaker line is
+stop_weaker P Q weaker Failed is = tt
+stop_weaker P Q weaker NoMemory is = tt
+
+pub bad_script : (files : FilesState) (name bytes : List ℕ) → IsReadWithin files name bytes → (stop : Stop) → IsStop (IsOutsideGrammar name bytes) stop → IsStop (BadScript files name) stop
+bad_script files name bytes read = stop_weaker (IsOutsideGrammar name bytes) (BadScript files name) (λ line. OutsideGrammar bytes read)
+
+pub bad_image : (files : FilesState) (image name : List ℕ) (stop : Stop) → IsStop (BadImage files image) stop → IsStop (BadPair files image name) stop
+bad_image files image name = stop_weaker (BadImage files image) (BadPair files image name) (λ line. OfImage)
+
+pub bad_second : (files : FilesState) (image name : List ℕ) (opening : OpeningData) → IsKept files image opening → (stop : Stop) → IsStop (BadScript files name) stop → IsStop (BadPair files image name) stop
+bad_second files image name opening kept = stop_weaker (BadScript files name) (BadPair files image name) (λ line. OfScript opening kept)
+
+-- a command that stops makes nothing
+pub stopped : (command : Command) (files : FilesState) (result : Result CodeMade Stop) (stop : Stop) → IsErr result → IsErrAnd result (λ e. e ≡ stop) → IsStop (IsBadInput command files) stop → Makes command files result
+stopped command files (Ok made) stop is same bad = cc
+stopped command files (Err e) stop is same bad = record { ok = tt; err = subst (IsStop (IsBadInput command files)) (sym same) bad }
+
+-- a file that was read to the size that it told
+pub content_read : (file : Option File) (size : ℕ) (bytes : List ℕ) → Some size ≡ size_of file → bytes ≡ take size (bytes_of file) → content file ≡ Some bytes
+content_read None size bytes told read = cc
+content_read (Some file) size bytes told read =
+    let whole : size ≡ length file.bytes = cc in
+    ap (λ (all : List ℕ). Some all) (sym (read ∙ take_all size file.bytes (omega (arith, whole))))
