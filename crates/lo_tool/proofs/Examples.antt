@@ -4,6 +4,7 @@ use Rattle.std.proofs.lemmas.List.Elements.{All-replicate}
 use native.Mathlib.Numerals.{unary_clauses}
 use Rattle.std.specs.Prelude.{codes, slice_get, slice_index_or}
 use Rattle.std.specs.Fmt.{digits}
+use Rattle.lo_base.specs.declared.refusal.Cause.TheVariants.{NoObject}
 use Rattle.lo_base.specs.declared.request.Request.{Request}
 use Rattle.lo_base.specs.declared.request.Request.TheVariants.{LoCreate, LoGet}
 use Rattle.lo_machine.specs.Program.{program_of}
@@ -14,11 +15,12 @@ use Rattle.lo_model.specs.Opening.{Opening}
 use Rattle.lo_opening.specs.Meaning.{opening_of}
 use Rattle.lo_script.specs.ReplyText.{lines_of}
 use Rattle.lo_script.specs.Script.{ScriptText, script_with}
-use Rattle.lo_tool.specs.Command.{Init, RunScript, RunScriptOn, command_of, usual_blocks}
+use Rattle.lo_tool.specs.Command.{Init, ListObjects, RunScript, RunScriptOn, UnlinkObject, command_of, usual_blocks}
 use Rattle.lo_tool.specs.Images.{empty_data}
 use Rattle.lo_tool.specs.Made.{new_name}
+use Rattle.lo_tool.specs.Objects.{listed_object}
 use Rattle.lo_tool.specs.ScriptFile.{RunsTo, end_on, schedule_on}
-use Rattle.lo_tool.specs.Texts.{line_about, bad_image_text, bad_line_text, missing}
+use Rattle.lo_tool.specs.Texts.{line_about, bad_image_text, bad_line_text, missing, refusal_line}
 
 -- Words
 
@@ -69,6 +71,17 @@ no_number : command_of (codes "init" ∷ codes "photos" ∷ codes "two" ∷ []) 
 unfolding digits
 no_number = refl
 
+a_list : command_of (codes "list" ∷ codes "photos" ∷ []) ≡ Some (ListObjects (codes "photos"))
+a_list = refl
+
+a_removal : command_of (codes "unlink" ∷ codes "photos" ∷ codes "7" ∷ []) ≡ Some (UnlinkObject (codes "photos") 7)
+unfolding digits
+a_removal = refl
+
+no_object : command_of (codes "unlink" ∷ codes "photos" ∷ codes "-7" ∷ []) ≡ None
+unfolding digits
+no_object = refl
+
 no_image : command_of (codes "init" ∷ []) ≡ None
 no_image = refl
 
@@ -87,6 +100,14 @@ a_bad_line = refl
 a_bad_image : line_about (codes "db.img") (bad_image_text (record { offset = 30; kind = Short })) ≡ codes "lo_tool: db.img: bad image at 30: Short\n"
 unfolding digits
 a_bad_image = refl
+
+a_refusal : refusal_line (record { cause = NoObject; subject = pos 7 }) ≡ codes "lo_tool: ERROR 42704: large object 7 does not exist\n"
+unfolding digits
+a_refusal = refl
+
+a_listed_object : listed_object (record { oid = 7; bytes = codes "abc" }) ≡ codes "7 3\n"
+unfolding digits
+a_listed_object = refl
 
 the_new_file : new_name (codes "db.img") ≡ codes "db.img.new"
 the_new_file = refl

@@ -1,4 +1,5 @@
 mod Examples
 pub mod Stops
+pub mod ObjectsListed
 pub mod PiecesOfText
 pub mod Statuses

@@ -12,7 +12,7 @@ use Rattle.lo_opening.specs.Opening.{IsOpening, OpeningData}
 use Rattle.lo_script.specs.Script.{ScriptText, script_of}
 use Rattle.lo_tool.specs.declared.run.Status.{Status}
 use Rattle.lo_tool.specs.declared.run.Status.TheVariants.{Done, Refused, Usage, BadInput, Fault, NoMemory}
-use Rattle.lo_tool.specs.Command.{Command, Init, RunScript, RunScriptOn, command_of}
+use Rattle.lo_tool.specs.Command.{Command, Init, ListObjects, RunScript, RunScriptOn, UnlinkObject, command_of}
 use Rattle.lo_tool.specs.Commands.{IsBadInput, IsMadeBy, HasInput}
 use Rattle.lo_tool.specs.Finishing.{Finishes, Saved_, Starved, Unsaved}
 use Rattle.lo_tool.specs.Images.{BadImage, GoodImage, IsNoImage, NoImage, NotThere}
@@ -20,7 +20,7 @@ use Rattle.lo_tool.specs.Made.{FilesAre, FilesLeft, LeavesImage, Made, Saved, im
 use Rattle.lo_tool.specs.Outside.{Outside, FilesState, SinkState, Took, TookFront, TookNothing, FilesStay, IsFaultless, Failing, FilesFailed, OutFailed, ErrFailed, last_count, content}
 use Rattle.lo_tool.specs.Printing.{Complains, Said, Failed, Prints, Printed, Lost}
 use Rattle.lo_tool.specs.ScriptFile.{BadPair, BadScript, GoodPair, GoodScript, Missing, OfImage, OfScript, OutsideGrammar, TooLong}
-use Rattle.lo_tool.specs.Status.{IsMade, IsInputLine, IsDone, IsUsage, IsRefusedInput, IsFault, IsNoMemory, IsErrorLine, FaultLine, UsageLine, InputLine, SaidFront, IsRunnable, EndsWell, Completed, WantsMemory, Leaves, LeavesDone, LeavesUsage, LeavesInput, LeavesFault, LeavesNoMemory}
+use Rattle.lo_tool.specs.Status.{IsMade, IsInputLine, IsDone, IsUsage, IsRefusedInput, IsFault, IsNoMemory, IsErrorLine, FaultLine, UsageLine, InputLine, RefusalLine, IsRefusalLine, IsRefused, SaidFront, IsRunnable, EndsWell, Completed, WantsMemory, WasRefused, Leaves, LeavesDone, LeavesRefused, LeavesUsage, LeavesInput, LeavesFault, LeavesNoMemory}
 use Rattle.lo_tool.specs.Texts.{usage_line, fault_line}
 use Rattle.lo_tool.proofs.Stops.{same_state}
 
@@ -97,6 +97,14 @@ leaves_bad_input words files files' out err err' line result bad folder count (S
 leaves_bad_input words files files' out err err' line result bad folder count (Failed is front rose) =
     LeavesFault is (lost_line words files files' out err err' line (InputLine bad) folder front rose)
 
+-- a reply was a refusal
+pub leaves_refused : (words : List (List ℕ)) (files files' : FilesState) (out err err' : SinkState) (line : List ℕ) (result : Status) → IsRefusalLine words files line → files'.folder ≡ files.folder → files'.faults ≡ files.faults → Complains line Refused err err' result → Leaves words (three files out err) (three files' out err') result
+leaves_refused words files files' out err err' line result refusal folder count (Said is took same) =
+    LeavesRefused is (record { line = line; refusal = refusal; files = same_files files files' folder; no_output = same_taken out; said = took })
+    (record { files_count = count; out_count = refl; err_count = same })
+leaves_refused words files files' out err err' line result refusal folder count (Failed is front rose) =
+    LeavesFault is (lost_line words files files' out err err' line (RefusalLine refusal) folder front rose)
+
 -- a file failed
 pub leaves_fault : (words : List (List ℕ)) (files files' : FilesState) (out err err' : SinkState) (result : Status) → files'.folder ≡ files.folder → Rose files.faults files'.faults → Complains fault_line Fault err err' result → Leaves words (three files out err) (three files' out err') result
 leaves_fault words files files' out err err' result folder rose complains =
@@ -128,6 +136,8 @@ unfolding name_in
 saved_name (Init image blocks) files made by = sym (ap (option_map name_in) by.saved)
 saved_name (RunScript file) files made by = sym (ap (option_map name_in) by.unsaved)
 saved_name (RunScriptOn image file) files made by = sym (ap (option_map name_in) by.saved)
+saved_name (ListObjects image) files made by = sym (ap (option_map name_in) by.unsaved)
+saved_name (UnlinkObject image oid) files made by = sym (ap (option_map name_in) by.saved)
 
 none_saved : (saved : Option Saved) (old new : FilesState) → option_map name_in saved ≡ None → FilesAre saved old new → FilesStay old new
 none_saved None old new none are = are
@@ -195,7 +205,7 @@ leaves_made words files mid out err after made result is tells folder count ends
 -- what a status says
 abbrev pub Says : (words : List (List ℕ)) (before after : Outside) → Status → Type 0
 Says words before after Done = IsDone words before after
-Says words before after Refused = ⊥
+Says words before after Refused = IsRefused words before after
 Says words before after Usage = IsUsage words before after
 Says words before after BadInput = IsRefusedInput words before after
 Says words before after Fault = IsFault words before after
@@ -205,6 +215,7 @@ pub says : (words : List (List ℕ)) (before after : Outside) (status expected :
 says words before after status expected (LeavesDone is done whole) h = subst (Says words before after) (sym is ∙ h) done
 says words before after status expected (LeavesUsage is usage whole) h = subst (Says words before after) (sym is ∙ h) usage
 says words before after status expected (LeavesInput is input whole) h = subst (Says words before after) (sym is ∙ h) input
+says words before after status expected (LeavesRefused is refused whole) h = subst (Says words before after) (sym is ∙ h) refused
 says words before after status expected (LeavesFault is fault) h = subst (Says words before after) (sym is ∙ h) fault
 says words before after status expected (LeavesNoMemory is wants whole) h = subst (Says words before after) (sym is ∙ h) wants
 
@@ -213,6 +224,7 @@ pub faultless : (words : List (List ℕ)) (before after : Outside) (status : Sta
 faultless words before after status (LeavesDone is done whole) h = whole
 faultless words before after status (LeavesUsage is usage whole) h = whole
 faultless words before after status (LeavesInput is input whole) h = whole
+faultless words before after status (LeavesRefused is refused whole) h = whole
 faultless words before after status (LeavesFault is fault) h = absurd (h is)
 faultless words before after status (LeavesNoMemory is wants whole) h = whole
 
@@ -267,6 +279,8 @@ input_is_not_bad : (command : Command) (files : FilesState) (line : List ℕ) �
 input_is_not_bad (Init image blocks) files line tells good bad = free_is_not_taken (files.folder image) good (bad.there tells)
 input_is_not_bad (RunScript file) files line tells good bad = good_is_not_bad files file line tells good bad
 input_is_not_bad (RunScriptOn image file) files line tells good bad = pair_is_not_bad files image file line tells good bad
+input_is_not_bad (ListObjects image) files line tells good bad = image_is_not_bad files image line tells good bad
+input_is_not_bad (UnlinkObject image oid) files line tells good bad = image_is_not_bad files image line tells good bad
 
 not_said : (words : List (List ℕ)) (files : FilesState) (line : List ℕ) → IsRunnable words files → IsInputLine words files line → ⊥
 not_said words files line runnable bad =
@@ -278,5 +292,6 @@ pub completes : (words : List (List ℕ)) (before after : Outside) (status : Sta
 completes words before after status (LeavesDone is done whole) runnable none = Completed is
 completes words before after status (LeavesUsage is usage whole) runnable none = absurd (none_is_not_some runnable.command (sym usage.no_command ∙ runnable.is))
 completes words before after status (LeavesInput is input whole) runnable none = absurd (not_said words before.files input.line runnable input.bad)
+completes words before after status (LeavesRefused is refused whole) runnable none = WasRefused is
 completes words before after status (LeavesFault is fault) runnable none = absurd (none fault.cause)
 completes words before after status (LeavesNoMemory is wants whole) runnable none = WantsMemory is

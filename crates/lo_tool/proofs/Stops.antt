@@ -7,12 +7,12 @@ use Rattle.lo_opening.specs.Opening.{OpeningData}
 use Rattle.lo_outside.specs.Files.{File, bytes_of, size_of}
 use Rattle.lo_tool.specs.declared.made.Made.{Made as CodeMade}
 use Rattle.lo_tool.specs.declared.stop.Stop.{Stop}
-use Rattle.lo_tool.specs.declared.stop.Stop.TheVariants.{BadInput, Fault as Failed, NoMemory}
+use Rattle.lo_tool.specs.declared.stop.Stop.TheVariants.{BadInput, Refused, Fault as Failed, NoMemory}
 use Rattle.lo_tool.specs.Command.{Command}
 use Rattle.lo_tool.specs.Commands.{IsBadInput}
 use Rattle.lo_tool.specs.Images.{BadImage, IsKept}
 use Rattle.lo_tool.specs.Outside.{FilesState, content}
-use Rattle.lo_tool.specs.Reading.{IsStop, Makes}
+use Rattle.lo_tool.specs.Reading.{IsCommandStop, IsStop, Makes}
 use Rattle.lo_tool.specs.ScriptFile.{BadPair, BadScript, IsOutsideGrammar, IsReadWithin, OfImage, OfScript, OutsideGrammar}
 
 -- files that did not change
@@ -22,6 +22,7 @@ same_state old new tells folder count = rw (← tells, ← folder, ← count) re
 -- a stop says what its line says
 pub stop_weaker : (P Q : List ℕ → Type 0) → ((line : List ℕ) → P line → Q line) → (stop : Stop) → IsStop P stop → IsStop Q stop
 stop_weaker P Q weaker (BadInput line) is = weaker line is
+stop_weaker P Q weaker (Refused line) is = absurd is
 stop_weaker P Q weaker Failed is = tt
 stop_weaker P Q weaker NoMemory is = tt
 
@@ -34,10 +35,20 @@ bad_image files image name = stop_weaker (BadImage files image) (BadPair files i
 pub bad_second : (files : FilesState) (image name : List ℕ) (opening : OpeningData) → IsKept files image opening → (stop : Stop) → IsStop (BadScript files name) stop → IsStop (BadPair files image name) stop
 bad_second files image name opening kept = stop_weaker (BadScript files name) (BadPair files image name) (λ line. OfScript opening kept)
 
+-- a stop over a file is one of the command
+of_file : (command : Command) (files : FilesState) (stop : Stop) → IsStop (IsBadInput command files) stop → IsCommandStop command files stop
+of_file command files (BadInput line) is = is
+of_file command files (Refused line) is = absurd is
+of_file command files Failed is = tt
+of_file command files NoMemory is = tt
+
 -- a command that stops makes nothing
+pub stops : (command : Command) (files : FilesState) (result : Result CodeMade Stop) (stop : Stop) → IsErr result → IsErrAnd result (λ e. e ≡ stop) → IsCommandStop command files stop → Makes command files result
+stops command files (Ok made) stop is same bad = cc
+stops command files (Err e) stop is same bad = record { ok = tt; err = subst (IsCommandStop command files) (sym same) bad }
+
 pub stopped : (command : Command) (files : FilesState) (result : Result CodeMade Stop) (stop : Stop) → IsErr result → IsErrAnd result (λ e. e ≡ stop) → IsStop (IsBadInput command files) stop → Makes command files result
-stopped command files (Ok made) stop is same bad = cc
-stopped command files (Err e) stop is same bad = record { ok = tt; err = subst (IsStop (IsBadInput command files)) (sym same) bad }
+stopped command files result stop is same bad = stops command files result stop is same (of_file command files stop bad)
 
 -- a file that was read to the size that it told
 pub content_read : (file : Option File) (size : ℕ) (bytes : List ℕ) → Some size ≡ size_of file → bytes ≡ take size (bytes_of file) → content file ≡ Some bytes

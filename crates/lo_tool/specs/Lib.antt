@@ -4,6 +4,7 @@ pub mod Finishing
 pub mod Images
 pub mod Loops
 pub mod Made
+pub mod Objects
 pub mod Outside
 pub mod Printing
 pub mod Reading

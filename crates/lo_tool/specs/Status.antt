@@ -2,9 +2,9 @@
 -- standard error took. `before` and `after` are all that is outside, at the call and at its return.
 use Rattle.std.specs.Prelude.{◌≡◌, ℕ, ◌<◌, ◌≤◌, List, Some, None, IsTrue}
 use Rattle.lo_tool.specs.declared.run.Status.{Status}
-use Rattle.lo_tool.specs.declared.run.Status.TheVariants.{Done, Usage, BadInput, Fault, NoMemory}
+use Rattle.lo_tool.specs.declared.run.Status.TheVariants.{Done, Refused, Usage, BadInput, Fault, NoMemory}
 use Rattle.lo_tool.specs.Command.{Command, command_of}
-use Rattle.lo_tool.specs.Commands.{IsMadeBy, IsBadInput, HasInput}
+use Rattle.lo_tool.specs.Commands.{IsMadeBy, IsBadInput, IsRefusal, HasInput}
 use Rattle.lo_tool.specs.Made.{FilesAre, FilesLeft, Made, image_saved}
 use Rattle.lo_tool.specs.Outside.{Outside, FilesState, Took, TookFront, TookNothing, FilesStay, IsFaultless, Failing, last_count}
 use Rattle.lo_tool.specs.Texts.{usage_line, fault_line}
@@ -20,6 +20,12 @@ pub record IsInputLine (words : List (List ℕ)) (files : FilesState) (line : Li
   pub command : Command
   pub is : command_of words ≡ Some command
   pub bad : IsBadInput command files line
+
+-- the words are a command, and the line says that a reply which it rests on is a refusal
+pub record IsRefusalLine (words : List (List ℕ)) (files : FilesState) (line : List ℕ) : Type 0 where
+  pub command : Command
+  pub is : command_of words ≡ Some command
+  pub by : IsRefusal command files line
 
 -- Done: standard output took the text of the command, and the image that it saves is saved
 pub record IsDone (words : List (List ℕ)) (before after : Outside) : Type 0 where
@@ -44,11 +50,20 @@ pub record IsRefusedInput (words : List (List ℕ)) (before after : Outside) : T
   pub no_output : TookNothing before.out after.out
   pub said : Took line before.err after.err
 
+-- Refused: a reply that the command rests on is a refusal
+pub record IsRefused (words : List (List ℕ)) (before after : Outside) : Type 0 where
+  pub line : List ℕ
+  pub refusal : IsRefusalLine words before.files line
+  pub files : FilesStay before.files after.files
+  pub no_output : TookNothing before.out after.out
+  pub said : Took line before.err after.err
+
 -- a line that can be said on standard error: that of a fault, or the one other line that the words and the files ask for
 pub data IsErrorLine (words : List (List ℕ)) (files : FilesState) (line : List ℕ) : Type 0 where
   FaultLine : line ≡ fault_line → IsErrorLine words files line
   UsageLine : command_of words ≡ None → line ≡ usage_line → IsErrorLine words files line
   InputLine : IsInputLine words files line → IsErrorLine words files line
+  RefusalLine : IsRefusalLine words files line → IsErrorLine words files line
 
 -- a front of such a line was said
 pub record SaidFront (words : List (List ℕ)) (before after : Outside) : Type 0 where
@@ -90,7 +105,7 @@ pub record IsNoMemory (words : List (List ℕ)) (before after : Outside) : Type 
   pub no_output : TookNothing before.out after.out
   pub no_error : TookNothing before.err after.err
 
--- all of it: no other status comes, and a fault alone changes a count
+-- all of it, status by status; a fault alone changes a count
 pub data Leaves (words : List (List ℕ)) (before after : Outside) (status : Status) : Type 0 where
   LeavesDone :
       status ≡ Done → IsDone words before after → IsFaultless before after →
@@ -100,6 +115,9 @@ pub data Leaves (words : List (List ℕ)) (before after : Outside) (status : Sta
       Leaves words before after status
   LeavesInput :
       status ≡ BadInput → IsRefusedInput words before after → IsFaultless before after →
+      Leaves words before after status
+  LeavesRefused :
+      status ≡ Refused → IsRefused words before after → IsFaultless before after →
       Leaves words before after status
   LeavesFault : status ≡ Fault → IsFault words before after → Leaves words before after status
   LeavesNoMemory :
@@ -113,7 +131,8 @@ pub record IsRunnable (words : List (List ℕ)) (files : FilesState) : Type 0 wh
   pub tells : IsTrue files.tells
   pub input : HasInput command files
 
--- a command that has all it needs is done, or memory is wanting
+-- a command that has all it needs is done, or a reply that it rests on is a refusal, or memory is wanting
 pub data EndsWell (status : Status) : Type 0 where
   Completed : status ≡ Done → EndsWell status
+  WasRefused : status ≡ Refused → EndsWell status
   WantsMemory : status ≡ NoMemory → EndsWell status

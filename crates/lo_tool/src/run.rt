@@ -3,7 +3,7 @@ ghost use Rattle.std.specs.Prelude.{◌≡◌, ◌≢◌, map, string_bytes};
 ghost use Rattle.lo_tool.specs.Finishing.{Finishes};
 ghost use Rattle.lo_tool.specs.Outside.{outside, files_state, TellsAsBefore, IsFaultless, Failing};
 ghost use Rattle.lo_tool.specs.Reading.{made_of};
-ghost use Rattle.lo_tool.specs.Status.{IsDone, IsUsage, IsRefusedInput, IsFault, IsNoMemory, IsRunnable, EndsWell, Leaves};
+ghost use Rattle.lo_tool.specs.Status.{IsDone, IsRefused, IsUsage, IsRefusedInput, IsFault, IsNoMemory, IsRunnable, EndsWell, Leaves};
 
 use crate::made::Made;
 use crate::making::make;
@@ -60,14 +60,16 @@ pub fn run<R: Threads + Sync, F: Files, O: Sink, G: Gate + Sync>(
     ensures no_memory { result ≡ Status.NoMemory → IsNoMemory (map string_bytes words.now)
         (outside F.Files O.Sink files.old out.old err.old)
         (outside F.Files O.Sink files.new out.new err.new) }
-    ensures refused { result ≢ Status.Refused }
+    ensures refused { result ≡ Status.Refused → IsRefused (map string_bytes words.now)
+        (outside F.Files O.Sink files.old out.old err.old)
+        (outside F.Files O.Sink files.new out.new err.new) }
 
     // Where a count of faults rose, no other answer comes.
     ensures faultless { result ≢ Status.Fault → IsFaultless
         (outside F.Files O.Sink files.old out.old err.old)
         (outside F.Files O.Sink files.new out.new err.new) }
 
-    // A command that has all it needs is done, or memory is wanting.
+    // A command that has all it needs is done or refused, or memory is wanting.
     ensures complete { IsRunnable (map string_bytes words.now) (files_state F.Files files.old) →
         (Failing (outside F.Files O.Sink files.old out.old err.old)
         (outside F.Files O.Sink files.new out.new err.new) → ⊥) →
@@ -99,6 +101,7 @@ fn run_words<F: Files, O: Sink>(
     match make(alloc, files, command) {
         Ok(made) => finish(alloc, &made, files, out, err),
         Err(Stop::BadInput(line)) => complain(err, line.items(), Status::BadInput),
+        Err(Stop::Refused(line)) => complain(err, line.items(), Status::Refused),
         Err(Stop::Fault) => report_fault(err),
         Err(Stop::NoMemory) => Status::NoMemory,
     }

@@ -1,12 +1,14 @@
-//! Why a command came to no text.
+//! Why a command makes nothing.
 use lo_base::{Bytes, NoMemory};
 use lo_outside::Failed;
 
-/// Why a command came to no text.
+/// Why a command makes nothing.
 #[derive(Debug, Drop)]
 pub enum Stop {
     /// A file cannot be used, as the line for standard error says.
     BadInput(Bytes),
+    /// A request was refused, as the line for standard error says.
+    Refused(Bytes),
     /// A file failed.
     Fault,
     /// There was not memory enough.

@@ -215,7 +215,12 @@ fn other_words_are_usage(rt: HostRuntime) -> Result<(), Fail> {
         "init s 02",
         "init s 262145",
         "init s 2 3",
-        "list s",
+        "list",
+        "list -s",
+        "unlink s",
+        "unlink s -1",
+        "unlink s 4294967296",
+        "vacuumlo s",
         "-n",
     ] {
         check_all(&rt, rt.alloc(), &[usage(words)])?;

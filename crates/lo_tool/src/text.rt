@@ -1,10 +1,11 @@
 //! What is said on standard error.
-ghost use Rattle.std.specs.Prelude.{◌≡◌, IfOk};
-ghost use Rattle.lo_tool.specs.Texts.{line_about, bad_image_text, bad_line_text, defect_name};
+ghost use Rattle.std.specs.Prelude.{◌≡◌, IfOk, flat_map};
+ghost use Rattle.lo_tool.specs.Texts.{line_about, bad_image_text, bad_line_text, data_line, defect_name, refusal_line, unlinked_line};
 
 use itoa::Buffer;
-use lo_base::{Bytes, NoMemory};
+use lo_base::{Bytes, NoMemory, Oid, Refusal};
 use lo_image::{BadImage, Defect};
+use lo_opening::ObjectData;
 use lo_script::BadLine;
 use std::alloc::Global;
 
@@ -65,4 +66,42 @@ fn defect_name(kind: Defect) -> &'static [u8]
         Defect::Array => b"Array",
         Defect::Extra => b"Extra",
     }
+}
+
+/// The line that says that a request was refused.
+pub fn refusal_line(alloc: Global, refusal: &Refusal) -> Result<Bytes, NoMemory>
+    ensures { IfOk result (λ line. line ≡ refusal_line refusal.now) }
+{
+    let mut line = Bytes::from_slice(alloc, b"lo_tool: ERROR ")?;
+    line.extend(refusal.code().as_str().as_bytes())?;
+    line.extend(b": ")?;
+    refusal.text(&mut line)?;
+    line.extend(b"\n")?;
+    Ok(line)
+}
+
+/// A line for each object: its number and its size.
+pub fn objects_text(alloc: Global, objects: &[ObjectData]) -> Result<Bytes, NoMemory>
+    ensures { IfOk result (λ text. text ≡ flat_map data_line objects.now) }
+{
+    let mut text = Bytes::new(alloc);
+    let mut number = Buffer::new();
+    for object in objects {
+        text.extend(number.format(object.oid).as_bytes())?;
+        text.extend(b" ")?;
+        text.extend(number.format(object.size).as_bytes())?;
+        text.extend(b"\n")?;
+    }
+    Ok(text)
+}
+
+/// The line that says that an object was removed.
+pub fn unlinked_text(alloc: Global, oid: Oid) -> Result<Bytes, NoMemory>
+    ensures { IfOk result (λ text. text ≡ unlinked_line oid) }
+{
+    let mut number = Buffer::new();
+    let mut text = Bytes::from_slice(alloc, b"lo_unlink ")?;
+    text.extend(number.format(oid).as_bytes())?;
+    text.extend(b"\n")?;
+    Ok(text)
 }

@@ -1,7 +1,9 @@
 //! The words of a command. A new command has one variant and one arm of `command_of`.
 ghost use Rattle.std.specs.Prelude.{◌≡◌, ◌≤◌, IfSome, map, option_map, string_bytes};
-ghost use Rattle.lo_tool.specs.Command.{HasPool, blocks_of, command_of, command_meant, init_command, script_command, is_file_name};
+ghost use Rattle.lo_script.specs.Token.{oid_of};
+ghost use Rattle.lo_tool.specs.Command.{HasPool, blocks_of, command_of, command_meant, init_command, list_command, script_command, unlink_command, is_file_name};
 
+use lo_base::Oid;
 use lo_opening::MOST_BLOCKS;
 use lo_script::decimal;
 
@@ -17,6 +19,10 @@ pub enum Command<'a> {
     RunScript { file: &'a str },
     /// `script IMAGE FILE`: a script is run on a database, which is saved then.
     RunScriptOn { image: &'a str, file: &'a str },
+    /// `list IMAGE`: the objects of a database are told.
+    List { image: &'a str },
+    /// `unlink IMAGE OID`: an object of a database is removed.
+    Unlink { image: &'a str, oid: Oid },
 }
 
 /// The command that the words are, or none. Every command is parsed here, once.
@@ -31,6 +37,10 @@ pub fn command_of(words: &[String]) -> Option<Command<'_>>
         init_command(arguments)
     } else if name.as_str() == "script" {
         script_command(arguments)
+    } else if name.as_str() == "list" {
+        list_command(arguments)
+    } else if name.as_str() == "unlink" {
+        unlink_command(arguments)
     } else {
         None
     }
@@ -78,6 +88,33 @@ fn script_command(arguments: &[String]) -> Option<Command<'_>>
     }
 }
 
+/// What the words after `list` ask for.
+fn list_command(arguments: &[String]) -> Option<Command<'_>>
+    ensures is { option_map command_meant result ≡ list_command (map string_bytes arguments.now) }
+    ensures pool { IfSome result HasPool }
+{
+    match arguments {
+        [image] if is_file_name(image.as_str()) => Some(Command::List {
+            image: image.as_str(),
+        }),
+        _ => None,
+    }
+}
+
+/// What the words after `unlink` ask for.
+fn unlink_command(arguments: &[String]) -> Option<Command<'_>>
+    ensures is { option_map command_meant result ≡ unlink_command (map string_bytes arguments.now) }
+    ensures pool { IfSome result HasPool }
+{
+    match arguments {
+        [image, oid] if is_file_name(image.as_str()) => Some(Command::Unlink {
+            image: image.as_str(),
+            oid: oid_of(oid.as_str())?,
+        }),
+        _ => None,
+    }
+}
+
 /// Whether a word can name a file. Words that begin with `-` are options.
 fn is_file_name(word: &str) -> bool
     ensures { result ≡ is_file_name word.now }
@@ -95,6 +132,16 @@ fn blocks_of(word: &str) -> Option<u32>
 {
     match decimal(word.as_bytes()) {
         Some(n) if 1 <= n && n <= i64::from(MOST_BLOCKS) => Some(n as u32),
+        _ => None,
+    }
+}
+
+/// The number of a large object that a word is, without a sign or a leading zero.
+fn oid_of(word: &str) -> Option<Oid>
+    ensures { result ≡ oid_of word.now }
+{
+    match decimal(word.as_bytes()) {
+        Some(n) if 0 <= n && n <= i64::from(Oid::MAX) => Some(n as Oid),
         _ => None,
     }
 }

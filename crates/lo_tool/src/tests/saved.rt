@@ -153,7 +153,7 @@ fn fails<R: Abort + Threads + Sync>(
 }
 
 // Of `init` the size, and the new file's creation, its one piece, its sync and its renaming; of a script on an image also a read
-// of the image, and the size and a read of the script.
+// of the image, and the size and a read of the script; of a removal the size and a read of the image, and the save.
 #[test]
 fn each_call_that_fails_leaves_the_image(rt: HostRuntime) -> Result<(), Fail> {
     for call in 1..=5 {
@@ -161,6 +161,12 @@ fn each_call_that_fails_leaves_the_image(rt: HostRuntime) -> Result<(), Fail> {
     }
     for call in 1..=8 {
         fails(&rt, rt.alloc(), "script db.img s", EMPTY, call)?;
+    }
+    for call in 1..=6 {
+        fails(&rt, rt.alloc(), "unlink db.img 17000", OBJECT, call)?;
+    }
+    for call in 1..=2 {
+        fails(&rt, rt.alloc(), "list db.img", OBJECT, call)?;
     }
     let mut files = folder(rt.alloc(), EMPTY, SCRIPT.as_bytes())?;
     files.fail(vec![in rt.alloc(); 9]?);
@@ -181,6 +187,48 @@ fn an_image_is_saved_before_the_text_is_printed(rt: HostRuntime) -> Result<(), F
     lost.failing = (0, 1, 0);
     check(&rt, rt.alloc(), &mut files, &lost)?;
     holds(&rt, &mut files, OBJECT)
+}
+
+#[test]
+fn objects_are_told_and_removed(rt: HostRuntime) -> Result<(), Fail> {
+    let script =
+        b"A: lo_create 17001\nA: lo_truncate64 0 5\nA: lo_put 5 0 \\x41\nA: lo_from_bytea 7 \\x4142\n";
+    let mut files = folder(rt.alloc(), OBJECT, script)?;
+    check(
+        &rt,
+        rt.alloc(),
+        &mut files,
+        &done("list db.img", "17000 4\n"),
+    )?;
+    holds(&rt, &mut files, OBJECT)?;
+    let printed = "A: 17001\nA: ERROR 42704: invalid large-object descriptor: 0\n\
+        A: ERROR 42704: large object 5 does not exist\nA: 7\n";
+    check(
+        &rt,
+        rt.alloc(),
+        &mut files,
+        &done("script db.img s", printed),
+    )?;
+    check(
+        &rt,
+        rt.alloc(),
+        &mut files,
+        &done("list db.img", "7 2\n17000 4\n17001 0\n"),
+    )?;
+    for (words, printed) in [
+        ("unlink db.img 7", "lo_unlink 7\n"),
+        ("unlink db.img 17001", "lo_unlink 17001\n"),
+        ("list db.img", "17000 4\n"),
+    ] {
+        check(&rt, rt.alloc(), &mut files, &done(words, printed))?;
+        let said = "lo_tool: ERROR 42704: large object 7 does not exist\n";
+        let no_object = case("unlink db.img 7", Status::Refused, "", said);
+        check(&rt, rt.alloc(), &mut files, &no_object)?;
+    }
+    holds(&rt, &mut files, OBJECT)?;
+    let said = "lo_tool: none: no such file\n";
+    check(&rt, rt.alloc(), &mut files, &refused("list none", said))?;
+    check(&rt, rt.alloc(), &mut files, &refused("unlink none 7", said))
 }
 
 fn repeat(bytes: &mut Vec<u8>, count: usize, piece: &[u8]) -> Result<(), Fail> {
