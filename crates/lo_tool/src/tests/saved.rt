@@ -53,7 +53,7 @@ fn refused<'a>(words: &'a str, said: &'a str) -> Case<'a> {
 
 /// A folder with a script under `s`, and some bytes under `db.img` unless there are none.
 fn folder(alloc: Global, image: &[u8], script: &[u8]) -> Result<MemFiles, Fail> {
-    let mut files = MemFiles::new(alloc, 4, 20_000)?;
+    let mut files = MemFiles::new(alloc, 4, 40_000)?;
     if !files.put("s", script) {
         return Err(Fail::new("no room"));
     }
@@ -65,7 +65,7 @@ fn folder(alloc: Global, image: &[u8], script: &[u8]) -> Result<MemFiles, Fail> 
 
 /// Fails exactly where `db.img` does not hold these bytes, or is there and none are to come.
 fn holds(rt: &impl Abort, files: &mut MemFiles, bytes: &[u8]) -> Result<(), Fail> {
-    let mut found = [0; 12_000];
+    let mut found = [0; 24_000];
     let count = files.read("db.img", 0, &mut found)?;
     assert!(rt; found.get(..count) == Some(bytes));
     Ok(())
@@ -270,4 +270,62 @@ fn rows_are_kept(rt: HostRuntime) -> Result<(), Fail> {
         &done("script db.img s", printed),
     )?;
     holds(&rt, &mut files, &image)
+}
+
+/// Table `d` with `id` and two external columns, whose one row has the first value outside and 1500 bytes in it.
+const TWO_VALUES: &[u8] = b"PGLOIMG1\x00\x00\x01\x00\x00\x40\x00\x00\x00\x00\x00\x00\x02\x00\
+    \x01d\x03\x02id\x01p\x01a\x04e\x01b\x04e\x01\x00\x00\x00\x00\x00\x00\x00\
+    \x01\x01\x00\x00\x00\x00\x00\x00\x00\
+    \x02\x01\x12\xe0\x05\x00\x00\xdc\x05\x00\x00\x01\x00\x00\x00\x01\x00\x00\x00\
+    \x01\xdc\x05\x00\x00";
+
+/// Table `m` with `id` and a column of storage main; of its two rows the first has 8124 bytes in it.
+const LONG_VALUES: &[u8] = b"\x01m\x02\x02id\x01p\x01v\x04m\x02\x00\x00\x00\x00\x00\x00\x00\
+    \x01\x01\x00\x00\x00\x00\x00\x00\x00\x01\xbc\x1f\x00\x00";
+
+/// The second has 8125 bytes outside. Six chunks follow, of which the first has 1500 bytes.
+const LONG_OUTSIDE: &[u8] = b"\x01\x02\x00\x00\x00\x00\x00\x00\x00\
+    \x02\x01\x12\xc1\x1f\x00\x00\xbd\x1f\x00\x00\x02\x00\x00\x00\x02\x00\x00\x00\
+    \x06\x00\x00\x00\x00\x00\x00\x00\x01\x00\x00\x00\x00\x00\x00\x00\xdc\x05";
+
+fn planned_image(alloc: Global) -> Result<Vec<u8>, Fail> {
+    let mut image = Vec::new(alloc);
+    image.extend_from_slice(TWO_VALUES)?;
+    repeat(&mut image, 1500, b"b")?;
+    image.extend_from_slice(LONG_VALUES)?;
+    repeat(&mut image, 8124, b"c")?;
+    image.extend_from_slice(LONG_OUTSIDE)?;
+    repeat(&mut image, 1500, b"a")?;
+    for chunk in 0..4 {
+        image.extend_from_slice(&[2, 0, 0, 0, chunk, 0, 0, 0, 0xcc, 7])?;
+        repeat(&mut image, 1996, b"d")?;
+    }
+    image.extend_from_slice(&[2, 0, 0, 0, 4, 0, 0, 0, 0x8d, 0])?;
+    repeat(&mut image, 141, b"d")?;
+    repeat(&mut image, 8, b"\x00")?;
+    Ok(image)
+}
+
+// Of two values of 1500 bytes the first moves out; of storage main 8124 bytes fit their row, and 8125 move out.
+#[test]
+fn rows_lie_as_they_are_planned(rt: HostRuntime) -> Result<(), Fail> {
+    let mut script = Vec::new(rt.alloc());
+    script.extend_from_slice(b"A: create table m id:int8 v:bytea:main\nA: insert m 1 \\x")?;
+    repeat(&mut script, 8124, b"63")?;
+    script.extend_from_slice(b"\nA: insert m 2 \\x")?;
+    repeat(&mut script, 8125, b"64")?;
+    script.extend_from_slice(b"\nA: create table d id:int8 a:bytea:external b:bytea:external\n")?;
+    script.extend_from_slice(b"A: insert d 1 \\x")?;
+    repeat(&mut script, 1500, b"61")?;
+    script.extend_from_slice(b" \\x")?;
+    repeat(&mut script, 1500, b"62")?;
+    let mut files = folder(rt.alloc(), EMPTY, &script)?;
+    let printed = "A: CREATE TABLE\nA: INSERT 1\nA: INSERT 1\nA: CREATE TABLE\nA: INSERT 1\n";
+    check(
+        &rt,
+        rt.alloc(),
+        &mut files,
+        &done("script db.img s", printed),
+    )?;
+    holds(&rt, &mut files, &planned_image(rt.alloc())?)
 }
