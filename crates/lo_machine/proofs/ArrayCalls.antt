@@ -1,4 +1,4 @@
--- A request on array variables changes one session's variables at most, and of the engine nothing else.
+-- A request on array variables changes one session's variables at most, and of the server nothing else.
 use Rattle.std.proofs.Common.{◌≡◌, ◌≢◌, ◌≤◌, ◌<◌, ℕ, ◌+◌, ◌-◌, true, false, List, length, Option, Some, None, inl, inr, refl, ap, sym, subst, ◌∙◌, arith, append-nil, length-set, Vec, Global}
 use Rattle.std.specs.Prelude.{slice_get, slice_set, slice_index_or, ◌==◌, Result, Ok, Err, IfOk, IfErr}
 use Rattle.std.specs.Vec.{with_item}
@@ -15,11 +15,11 @@ use Rattle.lo_pages.proofs.Steps.{left_none}
 use Rattle.lo_pages.specs.Outcome.{first_of}
 use Rattle.row_tables.proofs.StoringRows.{leaves_none}
 use Rattle.xact_core.proofs.ListPlaces.{set_here, set_other}
-use Rattle.lo_machine.specs.declared.engine.Engine.{Engine}
+use Rattle.lo_machine.specs.declared.server.Server.{Server}
 use Rattle.lo_machine.specs.declared.variables.Variables.{Variables}
 use Rattle.lo_machine.specs.CallRows.{Shared}
 use Rattle.lo_machine.specs.Dispatch.{Finds, IsGranted, Grants, FindsNoMemory, Denies, Stays, AnswersCall, ReadsCall, here_in}
-use Rattle.lo_machine.specs.Engine.{xacts_of, IsEngine, HasRows, HasSession, Has, HasVariables, with_variables_at}
+use Rattle.lo_machine.specs.Server.{xacts_of, IsServer, HasRows, HasSession, Has, HasVariables, with_variables_at}
 use Rattle.lo_machine.specs.Later.{with_session_at}
 use Rattle.lo_machine.specs.Row.{Here, Row, with_variables}
 use Rattle.lo_machine.specs.State.{Variable}
@@ -27,15 +27,15 @@ use Rattle.lo_machine.specs.Variables.{IsAs}
 use Rattle.lo_machine.proofs.SessionPlaces.{set_same}
 use Rattle.lo_machine.proofs.WellEdits.{session_again}
 
--- the engine with other lists of variables
-abbrev pub with_lists : Engine → Vec Variables Global → Engine
+-- the server with other lists of variables
+abbrev pub with_lists : Server → Vec Variables Global → Server
 with_lists e lists = record e { variables = lists }
 
-module _ (e : Engine) (lists : Vec Variables Global) where
-  abbrev new : Engine
+module _ (e : Server) (lists : Vec Variables Global) where
+  abbrev new : Server
   new = with_lists e lists
 
-  sound_as : IsEngine e → length lists.items ≡ 16 → IsEngine new
+  sound_as : IsServer e → length lists.items ≡ 16 → IsServer new
   sound_as sound count = record {
     goes = sound.goes;
     whole = sound.whole;
@@ -77,7 +77,7 @@ variables_again s variables t = elim (cases_eq t s) [
 
 -- one session's list of variables at its place
 
-module _ (e : Engine) (s place : ℕ) (own' : Variables) (at : place + 1 ≡ s) (within : place < length e.variables.items) where
+module _ (e : Server) (s place : ℕ) (own' : Variables) (at : place + 1 ≡ s) (within : place < length e.variables.items) where
   -- the variables of all sessions, once those of one are others
   variables_as : (lists : List Variables) → lists ≡ slice_set e.variables.items place own' → (mine : List Variable) (variables : ℕ → List Variable) → HasVariables e variables → IsAs own' mine → (t : ℕ) (own : Variables) → 1 ≤ t → t ≤ 16 → slice_get lists (t - 1) ≡ Some own → IsAs own (with_variables_at s mine variables t)
   variables_as lists set mine variables has is t own low high stood = elim (cases_eq t s) [
@@ -107,12 +107,12 @@ pub record IsGrant (own own' : Variables) (row : Here → Row) (reply : Reply) (
   pub granted : (here : Here) → IsAs own here.variables → (row here).granted ≡ with_variables here reply (after here.variables)
   pub leaves : (mine : List Variable) → IsAs own mine → IsAs own' (after mine)
 
--- a row that grants other variables of its session and nothing else, of what the engine has
-pub record GrantsList (s : ℕ) (e : Engine) (row : Here → Row) (reply : Reply) (after : List Variable → List Variable) (ys : List (Edit Deed)) (shared : Shared) (sessions : ℕ → Session) (variables : ℕ → List Variable) : Type 0 where
+-- a row that grants other variables of its session and nothing else, of what the server has
+pub record GrantsList (s : ℕ) (e : Server) (row : Here → Row) (reply : Reply) (after : List Variable → List Variable) (ys : List (Edit Deed)) (shared : Shared) (sessions : ℕ → Session) (variables : ℕ → List Variable) : Type 0 where
   pub unrefused : first_of (row (here_in s e ys shared sessions variables)).refusals ≡ None
   pub granted : (row (here_in s e ys shared sessions variables)).granted ≡ with_variables (here_in s e ys shared sessions variables) reply (after (variables s))
 
-abbrev pub GrantsLists : (s : ℕ) → Engine → (Here → Row) → Reply → (List Variable → List Variable) → Type 0
+abbrev pub GrantsLists : (s : ℕ) → Server → (Here → Row) → Reply → (List Variable → List Variable) → Type 0
 GrantsLists s e row reply after = (ys : List (Edit Deed)) (shared : Shared) (sessions : ℕ → Session) (variables : ℕ → List Variable) → Finds s e ys shared sessions variables → GrantsList s e row reply after ys shared sessions variables
 
 -- why the row refuses
@@ -120,17 +120,17 @@ abbrev pub IsWhy : (own : Variables) → (Here → Row) → Denied → Type 0
 IsWhy own row NoMemory = Unit {0}
 IsWhy own row (By r) = (here : Here) → IsAs own here.variables → first_of (row here).refusals ≡ Some r
 
--- the engine, and the session's list in it before and after
-pub record Takes (s place : ℕ) (e : Engine) (lists : Vec Variables Global) (own own' : Variables) : Type 0 where
-  pub sound : IsEngine e
+-- the server, and the session's list in it before and after
+pub record Takes (s place : ℕ) (e : Server) (lists : Vec Variables Global) (own own' : Variables) : Type 0 where
+  pub sound : IsServer e
   pub rows : HasRows e
   pub at : place + 1 ≡ s
   pub most : place + 1 ≤ 16
   pub taken : own ≡ slice_index_or e.variables.items place own
   pub set : lists.items ≡ slice_set e.variables.items place own'
 
-module _ (s place : ℕ) (e : Engine) (lists : Vec Variables Global) (own own' : Variables) (takes : Takes s place e lists own own') where
-  abbrev sound : IsEngine e
+module _ (s place : ℕ) (e : Server) (lists : Vec Variables Global) (own own' : Variables) (takes : Takes s place e lists own own') where
+  abbrev sound : IsServer e
   sound = takes.sound
 
   within : place < length e.variables.items
@@ -168,7 +168,7 @@ module _ (s place : ℕ) (e : Engine) (lists : Vec Variables Global) (own own' :
       let mine = is_own variables finds.arrays in
       record { unrefused = grant.unrefused (here_in s e ys shared sessions variables) mine; granted = grant.granted (here_in s e ys shared sessions variables) mine })
 
-  -- where the list has what it had, so has the engine
+  -- where the list has what it had, so has the server
   abbrev pub Same : Type 0
   Same = (mine : List Variable) → IsAs own mine → IsAs own' mine
 
@@ -210,7 +210,7 @@ module _ (s place : ℕ) (e : Engine) (lists : Vec Variables Global) (own own' :
   denied_reads row denied same why = record { answers = answers_as row (Err denied) tt (denied_as row denied same why); stays = stays same }
 
 -- a list that was looked at alone, and one that was changed
-pub looked : (s place : ℕ) (e : Engine) (own : Variables) → IsEngine e → HasRows e → place + 1 ≡ s → place + 1 ≤ 16 → own ≡ slice_index_or e.variables.items place own → Takes s place e e.variables own own
+pub looked : (s place : ℕ) (e : Server) (own : Variables) → IsServer e → HasRows e → place + 1 ≡ s → place + 1 ≤ 16 → own ≡ slice_index_or e.variables.items place own → Takes s place e e.variables own own
 looked s place e own sound rows at most taken = record {
   sound = sound;
   rows = rows;
@@ -220,5 +220,5 @@ looked s place e own sound rows at most taken = record {
   set = set_same e.variables.items place own (slice_get_read e.variables.items 16 place own (sym sound.sixteen_lists) (omega (arith, most)) taken);
 }
 
-pub changed : (s place : ℕ) (e : Engine) (own own' : Variables) → IsEngine e → HasRows e → place + 1 ≡ s → place + 1 ≤ 16 → own ≡ slice_index_or e.variables.items place own → Takes s place e (with_item e.variables place own') own own'
+pub changed : (s place : ℕ) (e : Server) (own own' : Variables) → IsServer e → HasRows e → place + 1 ≡ s → place + 1 ≤ 16 → own ≡ slice_index_or e.variables.items place own → Takes s place e (with_item e.variables place own') own own'
 changed s place e own own' sound rows at most taken = record { sound = sound; rows = rows; at = at; most = most; taken = taken; set = refl }

@@ -1,4 +1,4 @@
--- Array variables by name: what a change of one leaves under each name, in the engine and in the state.
+-- Array variables by name: what a change of one leaves under each name, in the server and in the state.
 use Rattle.std.proofs.Common.{◌≡◌, ◌≢◌, ℕ, ℤ, Bool, true, false, not, cond, List, [], ◌∷◌, Option, Some, None, refl, ap, sym, subst, ◌∙◌, Vec, Global}
 use Rattle.std.specs.Prelude.{bytes_eq, filter, if◌then◌else◌, is_some, Result, Ok, Err, OnOk, OnErr, IfErr}
 use Rattle.std.specs.BTreeMap.{BTreeMap, get_by, insert_entry, is_at}
@@ -20,7 +20,7 @@ use Rattle.lo_machine.specs.declared.variables.Variables.{Variables}
 abbrev pub Key : Type 0
 Key = Vec ℕ Global
 
--- in the engine: an array was put under a name
+-- in the server: an array was put under a name
 
 pub array_put : (old new : BTreeMap Key Array) (key : Key) (array : Array) (name : List ℕ) → key.items ≡ name → new.entries ≡ insert_entry by_bytes old.entries key array → (other : List ℕ) → get_by (at_name other) new ≡ cond (bytes_eq name other) (Some array) (get_by (at_name other) old)
 array_put old new key array name named put other =
@@ -74,7 +74,7 @@ denied_element a sub (By r) is = by (excess a sub) is
     by None is' = absurd is'
     by (Some n) is' = ap Some (sym is')
 
--- in the engine: the array under a name has other elements
+-- in the server: the array under a name has other elements
 
 abbrev pub hits : (name : List ℕ) → Key → Bool
 hits name = is_at (at_name name)

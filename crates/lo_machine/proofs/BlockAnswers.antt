@@ -11,11 +11,11 @@ use Rattle.lo_model.specs.Levels.{released, undone}
 use Rattle.lo_model.specs.Session.{session_released, session_undone}
 use Rattle.lo_model.specs.Transaction.{has_levels, is_open}
 use Rattle.xact_core.specs.Transactions.{Transactions}
-use Rattle.lo_machine.specs.declared.engine.Engine.{Engine}
+use Rattle.lo_machine.specs.declared.server.Server.{Server}
 use Rattle.lo_machine.specs.CallRow.{call_row, writes, reads, sets, is_call, is_on_data}
 use Rattle.lo_machine.specs.CallRows.{misplaced_by}
 use Rattle.lo_machine.specs.Dispatch.{Grants, Denies, Stays, AnswersCall, ReadsCall, DeniesInBlock, AnswersInBlock}
-use Rattle.lo_machine.specs.Engine.{xacts_of, names_in, IsEngine, StandsFor, Leaves, Does, Undone, Becomes, Loses}
+use Rattle.lo_machine.specs.Server.{xacts_of, names_in, IsServer, StandsFor, Leaves, Does, Undone, Becomes, Loses}
 use Rattle.lo_machine.specs.Moves.{unturned, session_opened}
 use Rattle.lo_machine.specs.State.{State, Outcome, session_of, refused}
 use Rattle.lo_machine.specs.Step.{granted_or_refused, tried}
@@ -28,7 +28,7 @@ use Rattle.lo_machine.proofs.CallInBlock.{open_levels, look_reply, look_leaves, 
 use Rattle.lo_machine.proofs.Outcomes.{IsPlaced, tried_misplaced}
 
 -- A request that makes no edit, at the session's levels.
-module _ (s : ℕ) (low : 1 ≤ s) (high : s ≤ 16) (e0 e2 : Engine) (r : Request) (data' : is_on_data r ≡ true) (placed : (st : State) → StandsFor e0 st → IsPlaced st s r) (leaves : (st : State) → StandsFor e0 st → (reply : Reply) → Grants s (call_row r) e0 e2 reply → Leaves e2 st s (tried st s r)) where
+module _ (s : ℕ) (low : 1 ≤ s) (high : s ≤ 16) (e0 e2 : Server) (r : Request) (data' : is_on_data r ≡ true) (placed : (st : State) → StandsFor e0 st → IsPlaced st s r) (leaves : (st : State) → StandsFor e0 st → (reply : Reply) → Grants s (call_row r) e0 e2 reply → Leaves e2 st s (tried st s r)) where
   module _ (result : Result Reply Denied) (answers : AnswersCall s (call_row r) e0 e2 result) where
     time_same : (xacts_of e2).clock ≡ (xacts_of e0).clock
     time_same = clock_kept (xacts_of e0) (xacts_of e2) answers.xacts
@@ -64,7 +64,7 @@ module _ (s : ℕ) (low : 1 ≤ s) (high : s ≤ 16) (e0 e2 : Engine) (r : Reque
       }
 
 -- one in a block
-pub look_answers : (s : ℕ) → 1 ≤ s → s ≤ 16 → (e0 e2 : Engine) → 0 < length (names_in e0 s) → (r : Request) → is_call r ≡ true → misplaced_by r true ≡ None → (result : Result Reply Denied) → ReadsCall s (call_row r) e0 e2 result → AnswersInBlock s r e0 e2 result
+pub look_answers : (s : ℕ) → 1 ≤ s → s ≤ 16 → (e0 e2 : Server) → 0 < length (names_in e0 s) → (r : Request) → is_call r ≡ true → misplaced_by r true ≡ None → (result : Result Reply Denied) → ReadsCall s (call_row r) e0 e2 result → AnswersInBlock s r e0 e2 result
 look_answers s low high e0 e2 some r call in_block result reads =
     answers_as s low high e0 e2 r (call_on_data r call) placed (λ st stands reply grants. look_leaves s low high e0 st stands e2 reads.answers.xacts r (call_on_data r call) (placed st stands) reply grants some) result reads
   where
@@ -78,7 +78,7 @@ set_on_data = each_set (λ r. is_on_data r ≡ true) record { array = λ name te
 set_placed : (r : Request) → sets r ≡ true → (in_block : Bool) → misplaced_by r in_block ≡ None
 set_placed = each_set (λ r. (in_block : Bool) → misplaced_by r in_block ≡ None) record { array = λ name text in_block. refl; set = λ name sub value in_block. refl; elem' = λ name sub in_block. refl; show = λ name in_block. refl }
 
-pub set_answers : (s : ℕ) → 1 ≤ s → s ≤ 16 → (e0 e2 : Engine) (r : Request) → sets r ≡ true → (result : Result Reply Denied) → ReadsCall s (call_row r) e0 e2 result → AnswersInBlock s r e0 e2 result
+pub set_answers : (s : ℕ) → 1 ≤ s → s ≤ 16 → (e0 e2 : Server) (r : Request) → sets r ≡ true → (result : Result Reply Denied) → ReadsCall s (call_row r) e0 e2 result → AnswersInBlock s r e0 e2 result
 set_answers s low high e0 e2 r set result reads =
     answers_as s low high e0 e2 r (set_on_data r set) placed (λ st stands reply grants. set_leaves s low high e0 st stands e2 reads.answers.xacts r (set_on_data r set) (placed st stands) reply grants set) result reads
   where
@@ -86,12 +86,12 @@ set_answers s low high e0 e2 r set result reads =
     placed st stands = set_placed r set (is_open (session_of st s).transaction)
 
 -- One that writes, in a level of its own.
-module _ (s : ℕ) (low : 1 ≤ s) (high : s ≤ 16) (e0 e1 e2 : Engine) (some : 0 < length (names_in e0 s)) (name : List ℕ) (opens : Becomes s (names_in e0 s ++ Some name ∷ []) unturned (session_opened (Some name)) e0 e1) (level : ℕ) (is_level : level ≡ length (names_in e1 s)) (r : Request) (in_block : misplaced_by r true ≡ None) (is_writing : writes r ≡ true) where
+module _ (s : ℕ) (low : 1 ≤ s) (high : s ≤ 16) (e0 e1 e2 : Server) (some : 0 < length (names_in e0 s)) (name : List ℕ) (opens : Becomes s (names_in e0 s ++ Some name ∷ []) unturned (session_opened (Some name)) e0 e1) (level : ℕ) (is_level : level ≡ length (names_in e1 s)) (r : Request) (in_block : misplaced_by r true ≡ None) (is_writing : writes r ≡ true) where
   is_a_call : is_call r ≡ true
   is_a_call = ap (λ (b : Bool). b || reads r) is_writing
 
-  module _ (e3 : Engine) (names : List (Option (List ℕ))) (merges : Becomes s names (released s level) (session_released level) e2 e3) (reply : Reply) (answers : AnswersCall s (call_row r) e1 e2 (Ok reply)) where
-    pub level_granted : IsEngine e3 → AnswersInBlock s r e0 e3 (Ok reply)
+  module _ (e3 : Server) (names : List (Option (List ℕ))) (merges : Becomes s names (released s level) (session_released level) e2 e3) (reply : Reply) (answers : AnswersCall s (call_row r) e1 e2 (Ok reply)) where
+    pub level_granted : IsServer e3 → AnswersInBlock s r e0 e3 (Ok reply)
     level_granted sound3 =
         let same = ap (λ (x : Transactions). x.undos) answers.xacts.rest in
         record {
@@ -106,7 +106,7 @@ module _ (s : ℕ) (low : 1 ≤ s) (high : s ≤ 16) (e0 e1 e2 : Engine) (some :
           err = tt;
         }
 
-  module _ (unfailed : slice_index_or e0.failed.items (s - 1) false ≡ false) (e3 e4 : Engine) (names names' : List (Option (List ℕ))) (undoes : Becomes s names (undone s level) (session_undone level false) e2 e3) (loses : Loses s level e2 e3) (merges : Becomes s names' (released s level) (session_released level) e3 e4) (denied : Denied) (answers : AnswersCall s (call_row r) e1 e2 (Err denied)) where
+  module _ (fails : Bool) (failure : fails ≡ slice_index_or e0.failed.items (s - 1) false) (e3 e4 : Server) (names names' : List (Option (List ℕ))) (undoes : Becomes s names (undone s level) (session_undone level fails) e2 e3) (loses : Loses s level e2 e3) (merges : Becomes s names' (released s level) (session_released level) e3 e4) (denied : Denied) (answers : AnswersCall s (call_row r) e1 e2 (Err denied)) where
     time_kept : (xacts_of e4).clock ≡ (xacts_of e0).clock
     time_kept = merges.time ∙ (undoes.time ∙ (clock_kept (xacts_of e1) (xacts_of e2) answers.xacts ∙ opens.time))
 
@@ -114,7 +114,7 @@ module _ (s : ℕ) (low : 1 ≤ s) (high : s ≤ 16) (e0 e1 e2 : Engine) (some :
     denies_level (By refusal) refuses = record {
       first = λ st stands. write_first s low high e0 st stands name e1 e2 some opens answers.xacts level is_level r is_a_call in_block is_writing refusal refuses;
       undone = record {
-        stands = λ st stands. write_refused s low high e0 st stands name e1 e2 some opens answers.xacts level is_level (sym (stands.has.sessions s low high).failed ∙ unfailed) e3 e4 names names' undoes merges refuses.stays;
+        stands = λ st stands. write_refused s low high e0 st stands name e1 e2 some opens answers.xacts level is_level fails (sym (failure ∙ (stands.has.sessions s low high).failed)) e3 e4 names names' undoes merges refuses.stays;
         rows = λ old. merges.rows (undoes.rows refuses.stays.rows);
         time = time_kept;
       };
@@ -122,13 +122,13 @@ module _ (s : ℕ) (low : 1 ≤ s) (high : s ≤ 16) (e0 e1 e2 : Engine) (some :
     denies_level NoMemory lacks = record {
       first = λ st stands. tt;
       undone = record {
-        stands = λ st stands. write_starved s low high e0 st stands name e1 e2 some opens answers.xacts level is_level (sym (stands.has.sessions s low high).failed ∙ unfailed) e3 e4 names names' undoes merges loses lacks;
-        rows = λ old. merges.rows (lost_rows s level e1 e2 e3 is_level lacks names (session_undone level false) undoes loses (opens.rows old));
+        stands = λ st stands. write_starved s low high e0 st stands name e1 e2 some opens answers.xacts level is_level fails (sym (failure ∙ (stands.has.sessions s low high).failed)) e3 e4 names names' undoes merges loses lacks;
+        rows = λ old. merges.rows (lost_rows s level e1 e2 e3 is_level lacks names (session_undone level fails) undoes loses (opens.rows old));
         time = time_kept;
       };
     }
 
-    pub level_denied : IsEngine e4 → AnswersInBlock s r e0 e4 (Err denied)
+    pub level_denied : IsServer e4 → AnswersInBlock s r e0 e4 (Err denied)
     level_denied sound4 =
         let same = ap (λ (x : Transactions). x.undos) answers.xacts.rest in
         record {
@@ -139,7 +139,7 @@ module _ (s : ℕ) (low : 1 ≤ s) (high : s ≤ 16) (e0 e1 e2 : Engine) (some :
         }
 
 -- A request that was refused, and then the refusal undid the block's top level.
-pub refused_after : (s : ℕ) (e0 e2 e3 : Engine) (r : Request) (refusal : Refusal) (reply : Reply) → DeniesInBlock s r e0 e2 (By refusal) → Does e2 e3 s (λ st. refused st s refusal) reply → Does e0 e3 s (λ st. tried st s r) reply
+pub refused_after : (s : ℕ) (e0 e2 e3 : Server) (r : Request) (refusal : Refusal) (reply : Reply) → DeniesInBlock s r e0 e2 (By refusal) → Does e2 e3 s (λ st. refused st s refusal) reply → Does e0 e3 s (λ st. tried st s r) reply
 refused_after s e0 e2 e3 r refusal reply denies does = record {
   reply = λ st stands. does.reply st (denies.undone.stands st stands) ∙ ap (λ (done : Outcome). done.reply) (sym (is_tried st stands));
   leaves = λ st stands. subst (Leaves e3 st s) (sym (is_tried st stands)) (does.leaves st (denies.undone.stands st stands));
@@ -151,7 +151,7 @@ refused_after s e0 e2 e3 r refusal reply denies does = record {
     is_tried st stands = ap (granted_or_refused st s r) (denies.first st stands)
 
 -- A request out of place, which was refused.
-pub misplaced_does : (s : ℕ) → 1 ≤ s → s ≤ 16 → (e0 e2 : Engine) (r : Request) → is_on_data r ≡ true → (in_block : Bool) → (in_block ≡ true → 0 < length (names_in e0 s)) → (in_block ≡ false → names_in e0 s ≡ []) → (cause : Cause) → misplaced_by r in_block ≡ Some cause → (reply : Reply) → Does e0 e2 s (λ st. refused st s (refusal cause (pos 0))) reply → Does e0 e2 s (λ st. tried st s r) reply
+pub misplaced_does : (s : ℕ) → 1 ≤ s → s ≤ 16 → (e0 e2 : Server) (r : Request) → is_on_data r ≡ true → (in_block : Bool) → (in_block ≡ true → 0 < length (names_in e0 s)) → (in_block ≡ false → names_in e0 s ≡ []) → (cause : Cause) → misplaced_by r in_block ≡ Some cause → (reply : Reply) → Does e0 e2 s (λ st. refused st s (refusal cause (pos 0))) reply → Does e0 e2 s (λ st. tried st s r) reply
 misplaced_does s low high e0 e2 r data' in_block open' none cause is reply does =
     does_as e0 e2 s (λ st. refused st s (refusal cause (pos 0))) (λ st. tried st s r) reply (λ st stands. sym (tried_misplaced st s r cause data' (ap (misplaced_by r) (stood st stands in_block open' none) ∙ is))) does
   where

@@ -1,4 +1,4 @@
--- The requests of transaction blocks, and `vacuum`: what an engine did is what the row of the request says.
+-- The requests of transaction blocks, and `vacuum`: what a server did is what the row of the request says.
 use Rattle.std.proofs.Common.{◌≡◌, ◌≤◌, ◌<◌, ℕ, pos, ◌-◌, Bool, true, false, List, [], ◌∷◌, ◌++◌, length, take, Option, Some, None, refl, ap, sym, subst, ◌∙◌, arith}
 use Rattle.std.specs.Prelude.{All, IsPermutation, if◌then◌else◌, slice_index_or}
 use Rattle.lo_base.specs.declared.refusal.Cause.{Cause}
@@ -22,9 +22,9 @@ use Rattle.row_tables.specs.declared.cursors.Cursors.{Cursors}
 use Rattle.row_tables.specs.Cursors.{HoldsOwn, cursors_of, holds_of}
 use Rattle.row_tables.specs.Standing as tables
 use Rattle.row_versions.specs.declared.base.Core.{Core}
-use Rattle.lo_machine.specs.declared.engine.Engine.{Engine}
+use Rattle.lo_machine.specs.declared.server.Server.{Server}
 use Rattle.lo_machine.specs.CallRows.{shared_of}
-use Rattle.lo_machine.specs.Engine.{xacts_of, clock_of, names_in, all_holds, IsNamed, IsEngine, HasSession, Has, StandsFor, Leaves, Does, Becomes}
+use Rattle.lo_machine.specs.Server.{xacts_of, clock_of, names_in, all_holds, IsNamed, IsServer, HasSession, Has, StandsFor, Leaves, Does, Becomes}
 use Rattle.lo_machine.specs.Later.{with_session_at}
 use Rattle.lo_machine.specs.Moves.{unturned, session_opened}
 use Rattle.lo_machine.specs.State.{State, Outcome, now, edits, session_of, variables_of, answered, left_with, refused_in, refused}
@@ -45,7 +45,7 @@ no_names [] none = refl
 no_names (name ∷ names) none = absurd (omega (arith, none))
 
 -- the same outcomes in other words
-pub does_as : (old new : Engine) (s : ℕ) (outcome outcome' : State → Outcome) (answer : Reply) → ((st : State) → StandsFor old st → outcome st ≡ outcome' st) → Does old new s outcome answer → Does old new s outcome' answer
+pub does_as : (old new : Server) (s : ℕ) (outcome outcome' : State → Outcome) (answer : Reply) → ((st : State) → StandsFor old st → outcome st ≡ outcome' st) → Does old new s outcome answer → Does old new s outcome' answer
 does_as old new s outcome outcome' answer same does = record {
   reply = λ st stands. does.reply st stands ∙ ap (λ (done : Outcome). done.reply) (same st stands);
   leaves = λ st stands. subst (Leaves new st s) (same st stands) (does.leaves st stands);
@@ -53,11 +53,11 @@ does_as old new s outcome outcome' answer same does = record {
   time = does.time;
 }
 
-pub does_at : (old new new' : Engine) (s : ℕ) (outcome : State → Outcome) (answer : Reply) → new' ≡ new → Does old new s outcome answer → Does old new' s outcome answer
-does_at old new new' s outcome answer is does = subst (λ (e : Engine). Does old e s outcome answer) (sym is) does
+pub does_at : (old new new' : Server) (s : ℕ) (outcome : State → Outcome) (answer : Reply) → new' ≡ new → Does old new s outcome answer → Does old new' s outcome answer
+does_at old new new' s outcome answer is does = subst (λ (e : Server). Does old e s outcome answer) (sym is) does
 
 -- nothing was done
-nothing_does : (e : Engine) (s : ℕ) (answer : Reply) → Does e e s (λ st. answered st s answer) answer
+pub nothing_does : (e : Server) (s : ℕ) (answer : Reply) → Does e e s (λ st. answered st s answer) answer
 nothing_does e s answer = record {
   reply = λ st stands. refl;
   leaves = λ st stands. record {
@@ -76,7 +76,7 @@ nothing_does e s answer = record {
 }
 
 -- a level, or the transaction, began or ended
-becomes_does : (s : ℕ) (left : List (Option (List ℕ))) (turned : List (Edit Deed) → List (Edit Deed)) (after : Session → Session) (old new : Engine) (answer : Reply) → Becomes s left turned after old new → Does old new s (λ st. left_with st s answer (turned (edits st)) (after (session_of st s))) answer
+becomes_does : (s : ℕ) (left : List (Option (List ℕ))) (turned : List (Edit Deed) → List (Edit Deed)) (after : Session → Session) (old new : Server) (answer : Reply) → Becomes s left turned after old new → Does old new s (λ st. left_with st s answer (turned (edits st)) (after (session_of st s))) answer
 becomes_does s left turned after old new answer becomes = record {
   reply = λ st stands. refl;
   leaves = λ st stands. record {
@@ -88,21 +88,21 @@ becomes_does s left turned after old new answer becomes = record {
   time = becomes.time;
 }
 
-module _ (s : ℕ) (low : 1 ≤ s) (high : s ≤ 16) (old : Engine) where
+module _ (s : ℕ) (low : 1 ≤ s) (high : s ≤ 16) (old : Server) where
   -- a session's levels and failure in each state
   levels_are : (st : State) → StandsFor old st → names_in old s ≡ (session_of st s).transaction.levels
   levels_are st stands = (stands.has.sessions s low high).levels
 
-  inside : 0 < length (names_in old s) → (st : State) → StandsFor old st → is_open (session_of st s).transaction ≡ true
+  pub inside : 0 < length (names_in old s) → (st : State) → StandsFor old st → is_open (session_of st s).transaction ≡ true
   inside some st stands = ap has_levels (sym (levels_are st stands)) ∙ some_open (names_in old s) some
 
-  outside : names_in old s ≡ [] → (st : State) → StandsFor old st → is_open (session_of st s).transaction ≡ false
+  pub outside : names_in old s ≡ [] → (st : State) → StandsFor old st → is_open (session_of st s).transaction ≡ false
   outside none st stands = ap has_levels (sym (levels_are st stands) ∙ none)
 
   pub failure_is : (failed : Bool) → failed ≡ slice_index_or old.failed.items (s - 1) false → (st : State) → StandsFor old st → (session_of st s).transaction.failed ≡ failed
   failure_is failed is st stands = sym (is ∙ (stands.has.sessions s low high).failed)
 
-  module _ (new : Engine) where
+  module _ (new : Server) where
     -- begin
 
     pub begun_new : names_in old s ≡ [] → Becomes s (None ∷ []) unturned (session_opened None) old new → Does old new s (λ st. tried st s Begin) (Word words.Begin)
@@ -220,12 +220,12 @@ module _ (s : ℕ) (low : 1 ≤ s) (high : s ≤ 16) (old : Engine) where
 
 -- A vacuum: pages and rows stand for what they stood for, and all else stays.
 
-abbrev pub vacuumed : Engine → Core → Pages → Tables → Engine
+abbrev pub vacuumed : Server → Core → Pages → Tables → Server
 vacuumed e core ps ts = record e { core = core; store = record e.store { pages = ps }; tables = ts }
 
-module _ (e : Engine) (core : Core) (same : core ≡ e.core) (ps : Pages) (ts : Tables) (catalog : tables.tables_in ts ≡ tables.tables_in e.tables) (cursors : tables.cursors_in ts ≡ tables.cursors_in e.tables) where
-  pub vacuumed_sound : IsEngine e → pages.GoWith (xacts_of e) ps → IsEngine (vacuumed e core ps ts)
-  vacuumed_sound sound goes' = subst (λ (one : Core). IsEngine (vacuumed e one ps ts)) (sym same) record {
+module _ (e : Server) (core : Core) (same : core ≡ e.core) (ps : Pages) (ts : Tables) (catalog : tables.tables_in ts ≡ tables.tables_in e.tables) (cursors : tables.cursors_in ts ≡ tables.cursors_in e.tables) where
+  pub vacuumed_sound : IsServer e → pages.GoWith (xacts_of e) ps → IsServer (vacuumed e core ps ts)
+  vacuumed_sound sound goes' = subst (λ (one : Core). IsServer (vacuumed e one ps ts)) (sym same) record {
     goes = goes';
     whole = sound.whole;
     counter = sound.counter;

@@ -14,11 +14,11 @@ use Rattle.lo_model.specs.Session.{Session, idle_session, session_undone}
 use Rattle.lo_model.specs.Transaction.{has_levels, is_open, top_level}
 use Rattle.lo_pages.specs.Outcome.{first_of}
 use Rattle.xact_core.specs.Kept.{HoldsOthers}
-use Rattle.lo_machine.specs.declared.engine.Engine.{Engine}
+use Rattle.lo_machine.specs.declared.server.Server.{Server}
 use Rattle.lo_machine.specs.CallRow.{call_row, is_call, is_on_data, sets}
 use Rattle.lo_machine.specs.CallRows.{Shared, shared_of, shared_by, session_by, here, called, misplaced_by}
 use Rattle.lo_machine.specs.Dispatch.{here_in, IsGranted, Grants, Refuses, FindsNoMemory}
-use Rattle.lo_machine.specs.Engine.{xacts_of, clock_of, names_in, HasVariables, with_variables_at, StandsFor, Leaves, Becomes, Loses}
+use Rattle.lo_machine.specs.Server.{xacts_of, clock_of, names_in, HasVariables, with_variables_at, StandsFor, Leaves, Becomes, Loses}
 use Rattle.lo_machine.specs.Later.{with_session_at}
 use Rattle.lo_machine.specs.Moves.{unturned, session_opened}
 use Rattle.lo_machine.specs.Row.{Here, Row}
@@ -36,7 +36,7 @@ pub call_on_data : (r : Request) → is_call r ≡ true → is_on_data r ≡ tru
 call_on_data r call = ap (λ (b : Bool). b || sets r) call
 
 -- a session's variables after a grant that leaves those of the row
-pub granted_variables : (e : Engine) (s : ℕ) (variables : ℕ → List Variable) (own own' : List Variable) → own ≡ own' → HasVariables e (with_variables_at s own variables) → HasVariables e (with_variables_at s own' variables)
+pub granted_variables : (e : Server) (s : ℕ) (variables : ℕ → List Variable) (own own' : List Variable) → own ≡ own' → HasVariables e (with_variables_at s own variables) → HasVariables e (with_variables_at s own' variables)
 granted_variables e s variables own own' same has = subst (λ (vs : List Variable). HasVariables e (with_variables_at s vs variables)) same has
 
 -- what sessions share after two grants of rows that are alike
@@ -45,7 +45,7 @@ shared_alike a b alike =
     ap (λ (n : ℕ). record { counter = n; tables = a.granted.tables }) alike.counter
     ∙ ap (λ (ts : List Table). record { counter = b.granted.counter; tables = ts }) alike.tables
 
-module _ (s : ℕ) (low : 1 ≤ s) (high : s ≤ 16) (e0 e1 e2 : Engine) (none : names_in e0 s ≡ []) (opens : Becomes s (None ∷ []) unturned (session_opened None) e0 e1) (holds : HoldsOthers (xacts_of e1) (xacts_of e2)) where
+module _ (s : ℕ) (low : 1 ≤ s) (high : s ≤ 16) (e0 e1 e2 : Server) (none : names_in e0 s ≡ []) (opens : Becomes s (None ∷ []) unturned (session_opened None) e0 e1) (holds : HoldsOthers (xacts_of e1) (xacts_of e2)) where
   module _ (st : State) (stands : StandsFor e0 st) where
     abbrev pub mine : Session
     mine = session_of st s
@@ -111,7 +111,7 @@ module _ (s : ℕ) (low : 1 ≤ s) (high : s ≤ 16) (e0 e1 e2 : Engine) (none :
         pub alone_reply : reply ≡ (tried st s r).reply
         alone_reply = granted.answer ∙ (alike.reply ∙ ap (λ (done : Outcome). done.reply) (sym is_tried))
 
-        pub alone_leaves : (e3 : Engine) → Becomes s [] (committed s (clock_of e2)) (λ session. idle_session) e2 e3 → Leaves e3 st s (tried st s r)
+        pub alone_leaves : (e3 : Server) → Becomes s [] (committed s (clock_of e2)) (λ session. idle_session) e2 e3 → Leaves e3 st s (tried st s r)
         alone_leaves e3 ends =
             let has3 = ends.has _ _ _ granted.has in
             subst (Leaves e3 st s) (sym is_tried) record {
@@ -146,7 +146,7 @@ module _ (s : ℕ) (low : 1 ≤ s) (high : s ≤ 16) (e0 e1 e2 : Engine) (none :
         pub alone_refused : Refused refusal ≡ (tried st s r).reply
         alone_refused = sym (ap (λ (done : Outcome). done.reply) is_refused)
 
-        pub alone_refused_leaves : (e3 : Engine) → Becomes s [] (aborted s) (λ session. idle_session) e2 e3 → Leaves e3 st s (tried st s r)
+        pub alone_refused_leaves : (e3 : Server) → Becomes s [] (aborted s) (λ session. idle_session) e2 e3 → Leaves e3 st s (tried st s r)
         alone_refused_leaves e3 ends =
             let has2 = refuses.stays.has (edits st) shared sessions1 (has_opened s low high e0 st stands None (None ∷ []) e1 opens) in
             let arrays2 = refuses.stays.variables (variables_of st) (variables_opened s low high e0 st stands None (None ∷ []) e1 opens) in
@@ -162,7 +162,7 @@ module _ (s : ℕ) (low : 1 ≤ s) (high : s ≤ 16) (e0 e1 e2 : Engine) (none :
                 ∙ ap (λ (session : Session). with_session_at s session (session_of st) t) (sym is_idle)
 
     -- one that found no memory: its level is undone, and then its transaction
-    module _ (lacks : FindsNoMemory s e1 e2) (e3 e4 : Engine) (names : List (Option (List ℕ))) (undoes : Becomes s names (undone s 1) (session_undone 1 false) e2 e3) (loses : Loses s 1 e2 e3) (ends : Becomes s [] (aborted s) (λ session. idle_session) e3 e4) where
+    module _ (lacks : FindsNoMemory s e1 e2) (e3 e4 : Server) (names : List (Option (List ℕ))) (undoes : Becomes s names (undone s 1) (session_undone 1 false) e2 e3) (loses : Loses s 1 e2 e3) (ends : Becomes s [] (aborted s) (λ session. idle_session) e3 e4) where
       pub alone_stands : StandsFor e4 st
       alone_stands =
           let has3 = lost_has s 1 e1 e2 e3 (sym (ap length opens.names)) lacks names (session_undone 1 false) undoes loses (edits st) shared sessions1 (has_opened s low high e0 st stands None (None ∷ []) e1 opens) in

@@ -1,4 +1,4 @@
--- What a call finds in an engine that stands for a state: at the session's top level, or in a level that was opened for it.
+-- What a call finds in a server that stands for a state: at the session's top level, or in a level that was opened for it.
 use Rattle.std.proofs.Common.{◌≡◌, ◌≤◌, ℕ, ◌-◌, Bool, true, false, List, [], ◌∷◌, length, Option, Some, refl, ap, sym, subst, ◌∙◌, arith, inl, inr}
 use Rattle.std.specs.Prelude.{All, cond, not, ◌==◌, ◌&&◌, slice_get}
 use Rattle.std.proofs.lemmas.Bool.{cases_eq}
@@ -18,12 +18,12 @@ use Rattle.row_tables.specs.Standing as tables
 use Rattle.row_tables.specs.World as calls
 use Rattle.xact_core.specs.Kept.{HoldsOthers}
 use Rattle.xact_core.specs.Transactions.{Transactions, levels_of}
-use Rattle.lo_machine.specs.declared.engine.Engine.{Engine}
+use Rattle.lo_machine.specs.declared.server.Server.{Server}
 use Rattle.lo_machine.specs.declared.variables.Variables.{Variables}
 use Rattle.lo_machine.specs.Alike.{SeesNone, ReadsNone}
 use Rattle.lo_machine.specs.CallRows.{Shared, shared_of, here_at, here}
 use Rattle.lo_machine.specs.Dispatch.{Finds, here_in, Stays, FindsNoMemory}
-use Rattle.lo_machine.specs.Engine.{xacts_of, clock_of, names_in, HasRows, HasSession, Has, HasVariables, with_variables_at, StandsFor, Becomes, Loses}
+use Rattle.lo_machine.specs.Server.{xacts_of, clock_of, names_in, HasRows, HasSession, Has, HasVariables, with_variables_at, StandsFor, Becomes, Loses}
 use Rattle.lo_machine.specs.Later.{with_session_at}
 use Rattle.lo_machine.specs.Moves.{unturned, session_opened}
 use Rattle.lo_machine.specs.State.{State, Variable, now, edits, session_of, variables_of}
@@ -58,7 +58,7 @@ set_again s first second sessions t = by (t == s) refl
     by false is = rw is refl
 
 -- the same edits, the same that is shared, and the same sessions, one by one
-pub has_same : (e : Engine) (ys ys' : List (Edit Deed)) (shared shared' : Shared) (sessions sessions' : ℕ → Session) → ys ≡ ys' → shared ≡ shared' → ((t : ℕ) → sessions t ≡ sessions' t) → Has e ys shared sessions → Has e ys' shared' sessions'
+pub has_same : (e : Server) (ys ys' : List (Edit Deed)) (shared shared' : Shared) (sessions sessions' : ℕ → Session) → ys ≡ ys' → shared ≡ shared' → ((t : ℕ) → sessions t ≡ sessions' t) → Has e ys shared sessions → Has e ys' shared' sessions'
 has_same e ys ys' shared shared' sessions sessions' are equal same has = subst (λ (zs : List (Edit Deed)). Has e zs shared' sessions') are (subst (λ (one : Shared). Has e ys one sessions') equal record {
   edits = has.edits;
   rows = has.rows;
@@ -67,8 +67,8 @@ has_same e ys ys' shared shared' sessions sessions' are equal same has = subst (
   sessions = λ t low high. subst (HasSession e t) (same t) (has.sessions t low high);
 })
 
--- an engine with the same variables
-pub variables_kept : (old new : Engine) (variables : ℕ → List Variable) → new.variables ≡ old.variables → HasVariables old variables → HasVariables new variables
+-- a server with the same variables
+pub variables_kept : (old new : Server) (variables : ℕ → List Variable) → new.variables ≡ old.variables → HasVariables old variables → HasVariables new variables
 variables_kept old new variables same has = record {
   each = λ s own low high is. has.each s own low high (ap (λ (lists : Vec Variables Global). slice_get lists.items (s - 1)) (sym same) ∙ is);
 }
@@ -85,7 +85,7 @@ variables_again s variables t = elim (cases_eq t s) [
       rw test refl
 ]
 
-pub same_variables : (e : Engine) (s : ℕ) (variables : ℕ → List Variable) → HasVariables e variables → HasVariables e (with_variables_at s (variables s) variables)
+pub same_variables : (e : Server) (s : ℕ) (variables : ℕ → List Variable) → HasVariables e variables → HasVariables e (with_variables_at s (variables s) variables)
 same_variables e s variables has = record { each = λ t own low high is. subst (λ (vs : List Variable). IsAs own vs) (sym (variables_again s variables t)) (has.each t own low high is) }
 
 -- what holds of transactions of which other views are held
@@ -97,7 +97,7 @@ pub levels_kept : (old new : Transactions) → HoldsOthers old new → (s : ℕ)
 levels_kept old new holds s = ap (λ (x : Transactions). levels_of x s) holds.rest
 
 -- a call that changed nothing
-pub still_stands : (old new : Engine) (st : State) → Stays old new → HoldsOthers (xacts_of old) (xacts_of new) → StandsFor old st → StandsFor new st
+pub still_stands : (old new : Server) (st : State) → Stays old new → HoldsOthers (xacts_of old) (xacts_of new) → StandsFor old st → StandsFor new st
 still_stands old new st stays holds stands = record {
   time = clock_kept (xacts_of old) (xacts_of new) holds ∙ stands.time;
   has = stays.has (edits st) (shared_of st.database) (session_of st) stands.has;
@@ -107,7 +107,7 @@ still_stands old new st stays holds stands = record {
 }
 
 -- What a call that found no memory left is lost with its level.
-module _ (s level : ℕ) (e1 e2 e3 : Engine) (is_level : level ≡ length (names_in e1 s)) (lacks : FindsNoMemory s e1 e2) (names : List (Option (List ℕ))) (after : Session → Session) (undoes : Becomes s names (undone s level) after e2 e3) (loses : Loses s level e2 e3) where
+module _ (s level : ℕ) (e1 e2 e3 : Server) (is_level : level ≡ length (names_in e1 s)) (lacks : FindsNoMemory s e1 e2) (names : List (Option (List ℕ))) (after : Session → Session) (undoes : Becomes s names (undone s level) after e2 e3) (loses : Loses s level e2 e3) where
   level_still : level ≡ length (names_in e2 s)
   level_still = is_level ∙ ap (λ (x : Transactions). length (levels_of x s)) (sym lacks.xacts)
 
@@ -132,7 +132,7 @@ module _ (s level : ℕ) (e1 e2 e3 : Engine) (is_level : level ≡ length (names
   pub lost_variables : (variables : ℕ → List Variable) → HasVariables e1 variables → HasVariables e3 variables
   lost_variables variables has = variables_kept e2 e3 variables undoes.variables (lacks.variables variables has)
 
-module _ (s : ℕ) (low : 1 ≤ s) (high : s ≤ 16) (e0 : Engine) (st : State) (stands : StandsFor e0 st) where
+module _ (s : ℕ) (low : 1 ≤ s) (high : s ≤ 16) (e0 : Server) (st : State) (stands : StandsFor e0 st) where
   abbrev pub mine : Session
   mine = session_of st s
 
@@ -169,7 +169,7 @@ module _ (s : ℕ) (low : 1 ≤ s) (high : s ≤ 16) (e0 : Engine) (st : State) 
       ∙ ap (λ (level : ℕ). here_at (now st) s level (lowest_open s (session_of st)) (edits st) (shared_of st.database) mine (variables_of st s)) top_same
 
   -- in a level that was opened
-  module _ (name : Option (List ℕ)) (left : List (Option (List ℕ))) (e1 : Engine) (opens : Becomes s left unturned (session_opened name) e0 e1) where
+  module _ (name : Option (List ℕ)) (left : List (Option (List ℕ))) (e1 : Server) (opens : Becomes s left unturned (session_opened name) e0 e1) where
     abbrev pub opened : Session
     opened = session_opened name mine
 

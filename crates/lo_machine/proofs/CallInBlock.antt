@@ -17,11 +17,11 @@ use Rattle.lo_model.specs.Session.{Session, session_released, session_undone}
 use Rattle.lo_model.specs.Transaction.{has_levels, is_open, top_level}
 use Rattle.lo_pages.specs.Outcome.{first_of}
 use Rattle.xact_core.specs.Kept.{HoldsOthers}
-use Rattle.lo_machine.specs.declared.engine.Engine.{Engine}
+use Rattle.lo_machine.specs.declared.server.Server.{Server}
 use Rattle.lo_machine.specs.CallRow.{call_row, writes, sets, is_call, is_on_data}
 use Rattle.lo_machine.specs.CallRows.{Shared, shared_of, shared_by, session_by, here, called, misplaced_by}
 use Rattle.lo_machine.specs.Dispatch.{here_in, IsGranted, Grants, Refuses, FindsNoMemory, Stays}
-use Rattle.lo_machine.specs.Engine.{xacts_of, clock_of, names_in, Has, HasVariables, StandsFor, Leaves, Becomes, Loses}
+use Rattle.lo_machine.specs.Server.{xacts_of, clock_of, names_in, Has, HasVariables, StandsFor, Leaves, Becomes, Loses}
 use Rattle.lo_machine.specs.Later.{with_session_at}
 use Rattle.lo_machine.specs.Moves.{unturned, session_opened}
 use Rattle.lo_machine.specs.Row.{Here, Row, Granted}
@@ -74,8 +74,8 @@ having ds cs session = record { transaction = session.transaction; descriptors =
 merged_again : (name : Option (List ℕ)) (session : Session) (ds : List Descriptor) (cs cs' : List Cursor) → AreWithin (top_level session.transaction) ds → map (cursor_released (top_level session.transaction + 1)) cs ≡ cs' → session_released (top_level session.transaction + 1) (having ds cs (session_opened name session)) ≡ having ds cs' session
 merged_again name session ds cs cs' all every = rw (take_opened session.transaction.levels name, released_within (top_level session.transaction) ds all, every) refl
 
-undone_again : (name : Option (List ℕ)) (session : Session) → session.transaction.failed ≡ false → AreWithin (top_level session.transaction) session.descriptors → StandWithin (top_level session.transaction) session.cursors → session_undone (top_level session.transaction + 1) false (session_opened name session) ≡ session_opened name session
-undone_again name session unfailed all every = rw (take_whole session.transaction.levels name, below_within (top_level session.transaction) session.descriptors all, cursors_within (top_level session.transaction) session.cursors every, unfailed) refl
+undone_again : (name : Option (List ℕ)) (session : Session) (fails : Bool) → session.transaction.failed ≡ fails → AreWithin (top_level session.transaction) session.descriptors → StandWithin (top_level session.transaction) session.cursors → session_undone (top_level session.transaction + 1) fails (session_opened name session) ≡ session_opened name session
+undone_again name session fails failure all every = rw (take_whole session.transaction.levels name, below_within (top_level session.transaction) session.descriptors all, cursors_within (top_level session.transaction) session.cursors every, failure) refl
 
 -- the owner of an edit in a block
 owner_open : (now s : ℕ) (levels : List (Option (List ℕ))) → 0 < length levels → owner_in now s levels ≡ Running s (length levels)
@@ -93,7 +93,7 @@ left_alike false granted session ds cs =
     ap (λ (list : List Descriptor). having list granted.cursors session) ds
     ∙ ap (λ (list : List Cursor). having session.descriptors list session) cs
 
-module _ (s : ℕ) (low : 1 ≤ s) (high : s ≤ 16) (e0 : Engine) (st : State) (stands : StandsFor e0 st) where
+module _ (s : ℕ) (low : 1 ≤ s) (high : s ≤ 16) (e0 : Server) (st : State) (stands : StandsFor e0 st) where
   abbrev pub mine : Session
   mine = session_of st s
 
@@ -112,7 +112,7 @@ module _ (s : ℕ) (low : 1 ≤ s) (high : s ≤ 16) (e0 : Engine) (st : State) 
   does r = called st s (row r).granted
 
   -- A request that makes no edit, at the session's levels.
-  module _ (e2 : Engine) (holds : HoldsOthers (xacts_of e0) (xacts_of e2)) (r : Request) (data' : is_on_data r ≡ true) (placed : IsPlaced st s r) where
+  module _ (e2 : Server) (holds : HoldsOthers (xacts_of e0) (xacts_of e2)) (r : Request) (data' : is_on_data r ≡ true) (placed : IsPlaced st s r) where
     abbrev pub read : Row
     read = call_row r (here_in s e0 (edits st) shared (session_of st) (variables_of st))
 
@@ -167,7 +167,7 @@ module _ (s : ℕ) (low : 1 ≤ s) (high : s ≤ 16) (e0 : Engine) (st : State) 
         ∙ refuses.first (edits st) shared (session_of st) (variables_of st) (finds s low high e0 st stands))
 
   -- One that writes, in a level of its own.
-  module _ (name : List ℕ) (e1 e2 : Engine) (some : 0 < length (names_in e0 s)) (opens : Becomes s (names_in e0 s ++ Some name ∷ []) unturned (session_opened (Some name)) e0 e1) (holds : HoldsOthers (xacts_of e1) (xacts_of e2)) (level : ℕ) (is_level : level ≡ length (names_in e1 s)) where
+  module _ (name : List ℕ) (e1 e2 : Server) (some : 0 < length (names_in e0 s)) (opens : Becomes s (names_in e0 s ++ Some name ∷ []) unturned (session_opened (Some name)) e0 e1) (holds : HoldsOthers (xacts_of e1) (xacts_of e2)) (level : ℕ) (is_level : level ≡ length (names_in e1 s)) where
     abbrev pub opened : Session
     opened = session_opened (Some name) mine
 
@@ -242,7 +242,7 @@ module _ (s : ℕ) (low : 1 ≤ s) (high : s ≤ 16) (e0 : Engine) (st : State) 
         abbrev pub after : Session
         after = session_by true read'.granted (sessions1 s)
 
-        pub write_leaves : (e3 : Engine) (names : List (Option (List ℕ))) → Becomes s names (released s level) (session_released level) e2 e3 → Leaves e3 st s (tried st s r)
+        pub write_leaves : (e3 : Server) (names : List (Option (List ℕ))) → Becomes s names (released s level) (session_released level) e2 e3 → Leaves e3 st s (tried st s r)
         write_leaves e3 names merges =
             let has3 = merges.has _ _ _ granted'.has in
             subst (Leaves e3 st s) (sym write_tried) record {
@@ -281,9 +281,9 @@ module _ (s : ℕ) (low : 1 ≤ s) (high : s ≤ 16) (e0 : Engine) (st : State) 
           ∙ refuses.first (edits st) shared sessions1 (variables_of st) (finds_opened s low high e0 st stands (Some name) (names_in e0 s ++ Some name ∷ []) e1 opens))
 
     -- Where it was not done, its level is undone and merged.
-    module _ (unfailed : mine.transaction.failed ≡ false) (e3 e4 : Engine) (names names' : List (Option (List ℕ))) (undoes : Becomes s names (undone s level) (session_undone level false) e2 e3) (merges : Becomes s names' (released s level) (session_released level) e3 e4) where
-      undone_session : session_undone level false opened ≡ opened
-      undone_session = ap (λ (k : ℕ). session_undone k false opened) level_top ∙ undone_again (Some name) mine unfailed within stand_within
+    module _ (fails : Bool) (failure : mine.transaction.failed ≡ fails) (e3 e4 : Server) (names names' : List (Option (List ℕ))) (undoes : Becomes s names (undone s level) (session_undone level fails) e2 e3) (merges : Becomes s names' (released s level) (session_released level) e3 e4) where
+      undone_session : session_undone level fails opened ≡ opened
+      undone_session = ap (λ (k : ℕ). session_undone k fails opened) level_top ∙ undone_again (Some name) mine fails failure within stand_within
 
       merged_session : session_released level opened ≡ mine
       merged_session = ap (λ (k : ℕ). session_released k opened) level_top ∙ merged_again (Some name) mine mine.descriptors mine.cursors mine.cursors within (cursors_released top mine.cursors stand_within)
@@ -291,12 +291,12 @@ module _ (s : ℕ) (low : 1 ≤ s) (high : s ≤ 16) (e0 : Engine) (st : State) 
       undone_edits : undone s level (edits st) ≡ edits st
       undone_edits = ap (λ (k : ℕ). undone s k (edits st)) level_top ∙ undone_below s (top + 1) (edits st) before_below
 
-      undone_same : (t : ℕ) → with_session_at s (session_undone level false (sessions1 s)) sessions1 t ≡ sessions1 t
+      undone_same : (t : ℕ) → with_session_at s (session_undone level fails (sessions1 s)) sessions1 t ≡ sessions1 t
       undone_same t =
           set_again s opened _ (session_of st) t
-          ∙ ap (λ (session : Session). with_session_at s session (session_of st) t) (ap (session_undone level false) (own_session s opened (session_of st)) ∙ undone_session)
+          ∙ ap (λ (session : Session). with_session_at s session (session_of st) t) (ap (session_undone level fails) (own_session s opened (session_of st)) ∙ undone_session)
 
-      left_stands : Has e3 (undone s level (edits st)) shared (with_session_at s (session_undone level false (sessions1 s)) sessions1) → HasVariables e3 (variables_of st) → StandsFor e4 st
+      left_stands : Has e3 (undone s level (edits st)) shared (with_session_at s (session_undone level fails (sessions1 s)) sessions1) → HasVariables e3 (variables_of st) → StandsFor e4 st
       left_stands has3 arrays =
           let has4 = merges.has (edits st) shared sessions1 (has_same e3 _ _ shared shared _ _ undone_edits refl undone_same has3) in
           record {
@@ -315,5 +315,5 @@ module _ (s : ℕ) (low : 1 ≤ s) (high : s ≤ 16) (e0 : Engine) (st : State) 
 
       pub write_starved : Loses s level e2 e3 → FindsNoMemory s e1 e2 → StandsFor e4 st
       write_starved loses lacks =
-          left_stands (lost_has s level e1 e2 e3 is_level lacks names (session_undone level false) undoes loses (edits st) shared sessions1 has1)
-          (lost_variables s level e1 e2 e3 is_level lacks names (session_undone level false) undoes loses (variables_of st) arrays1)
+          left_stands (lost_has s level e1 e2 e3 is_level lacks names (session_undone level fails) undoes loses (edits st) shared sessions1 has1)
+          (lost_variables s level e1 e2 e3 is_level lacks names (session_undone level fails) undoes loses (variables_of st) arrays1)

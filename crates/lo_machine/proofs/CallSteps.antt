@@ -1,4 +1,4 @@
--- What a call of a session on large objects makes of what an engine has, in the words of its row. Tables and variables are as
+-- What a call of a session on large objects makes of what a server has, in the words of its row. Tables and variables are as
 -- they were, and rows stand for the edits of objects, too.
 use Rattle.std.proofs.Common.{◌≡◌, ◌≢◌, ◌≤◌, ℕ, ◌-◌, true, false, List, ◌++◌, length, Some, refl, ap, sym, subst, ◌∙◌, arith, inl, inr}
 use Rattle.std.specs.Prelude.{◌==◌, All, slice_get}
@@ -28,11 +28,11 @@ use Rattle.row_tables.proofs.Laws.{with_held}
 use Rattle.row_tables.proofs.Resting.{for_held}
 use Rattle.row_tables.proofs.StoringRows.{leaves_none}
 use Rattle.xact_core.specs.Transactions.{Transactions, levels_of}
-use Rattle.lo_machine.specs.declared.engine.Engine.{Engine}
+use Rattle.lo_machine.specs.declared.server.Server.{Server}
 use Rattle.lo_machine.specs.Alike.{IsSameRow}
 use Rattle.lo_machine.specs.CallRows.{Shared, session_by}
 use Rattle.lo_machine.specs.Dispatch.{Denies, Finds, Grants, IsGranted, Stays, here_in}
-use Rattle.lo_machine.specs.Engine.{xacts_of, clock_of, names_in, Has, HasRows, HasSession, HasSessions, HasVariables, IsLeveled, with_variables_at}
+use Rattle.lo_machine.specs.Server.{xacts_of, clock_of, names_in, Has, HasRows, HasSession, HasSessions, HasVariables, IsLeveled, with_variables_at}
 use Rattle.lo_machine.specs.Later.{all_later, all_later_cursors, with_session_at}
 use Rattle.lo_machine.specs.Row.{objects_here, on_objects}
 use Rattle.lo_machine.specs.State.{Variable}
@@ -42,7 +42,7 @@ use Rattle.lo_machine.proofs.ObjectDeeds.{rows_rest}
 use Rattle.lo_machine.proofs.RowsAlike.{IsObjectsRow}
 
 -- the same sessions, one by one
-pub has_as : (e : Engine) (ys : List (Edit Deed)) (shared : Shared) (sessions sessions' : ℕ → Session) → ((t : ℕ) → sessions t ≡ sessions' t) → Has e ys shared sessions → Has e ys shared sessions'
+pub has_as : (e : Server) (ys : List (Edit Deed)) (shared : Shared) (sessions sessions' : ℕ → Session) → ((t : ℕ) → sessions t ≡ sessions' t) → Has e ys shared sessions → Has e ys shared sessions'
 has_as e ys shared sessions sessions' same has = record {
   edits = has.edits;
   rows = has.rows;
@@ -58,7 +58,7 @@ same_variables s variables t = elim (cases_eq t s) [
   | inr other ↦ let test : (t == s) ≡ false = grind (arith, nat_tests, other) in rw test refl
 ]
 
-module _ (s : ℕ) (old new : Engine) (own own' : LoSession) (call : IsCall s old new own own') where
+module _ (s : ℕ) (old new : Server) (own own' : LoSession) (call : IsCall s old new own own') where
   abbrev before : World
   before = world (xacts_of old) old.store own
 
@@ -71,7 +71,7 @@ module _ (s : ℕ) (old new : Engine) (own own' : LoSession) (call : IsCall s ol
   number : own.s ≡ s
   number = own_number s old own call.low call.can.sound call.stood
 
-  -- what the engine has of the session then, and of others
+  -- what the server has of the session then, and of others
 
   own_session : (session session' : Session) → HasSession old s session → session'.transaction ≡ session.transaction → session'.cursors ≡ session.cursors → descriptors_of own'.descs ≡ all_later session'.descriptors → HasSession new s session'
   own_session session session' had transaction cursors descriptors = record {
@@ -206,7 +206,7 @@ module _ (s : ℕ) (old new : Engine) (own own' : LoSession) (call : IsCall s ol
       xacts = none.xacts;
     }
 
-    -- a call that leaves the store leaves what the engine had, where it is denied
+    -- a call that leaves the store leaves what the server had, where it is denied
     pub stays_denied : new.store ≡ old.store → (denied : Denied) → lo_calls.Denies row before after denied → Stays old new
     stays_denied store (By r) refuses = stays_refused refuses.same
     stays_denied store NoMemory none = stays_same none.xacts store none.session.descriptors

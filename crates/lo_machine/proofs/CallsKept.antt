@@ -1,4 +1,4 @@
--- What a call of a session on large objects keeps of its engine: the session is ready for it, and its entry alone is another
+-- What a call of a session on large objects keeps of its server: the session is ready for it, and its entry alone is another
 -- one after it.
 use Rattle.std.proofs.Common.{◌≡◌, ◌≢◌, ◌≤◌, ◌<◌, ℕ, ◌+◌, ◌-◌, List, [], ◌++◌, length, Some, ap, sym, subst, ◌∙◌, arith, length-set}
 use Rattle.std.specs.Prelude.{All, IsPermutation, slice_get, slice_set}
@@ -11,18 +11,18 @@ use Rattle.row_tables.specs.Cursors.{HoldsOwn, cursors_of, holds_of as cursor_ho
 use Rattle.row_tables.specs.Standing.{cursors_in, tables_in}
 use Rattle.xact_core.specs.Transactions.{Transactions, levels_of}
 use Rattle.xact_core.proofs.ListPlaces.{set_here, set_other}
-use Rattle.lo_machine.specs.declared.engine.Engine.{Engine}
+use Rattle.lo_machine.specs.declared.server.Server.{Server}
 use Rattle.lo_machine.specs.Dispatch.{CanCall}
-use Rattle.lo_machine.specs.Engine.{xacts_of, names_in, all_holds, views_held, IsEngine, IsNamed}
+use Rattle.lo_machine.specs.Server.{xacts_of, names_in, all_holds, views_held, IsServer, IsNamed}
 use Rattle.lo_machine.specs.Well.{IsFirst}
 use Rattle.lo_machine.proofs.SessionPlaces.{holds_exchanged, placed_exchanged, own_open, placed_open}
 
 -- a session whose entry it is, and its number
-pub own_number : (s : ℕ) (e : Engine) (own : LoSession) → 1 ≤ s → IsEngine e → slice_get e.sessions.items (s - 1) ≡ Some own → own.s ≡ s
+pub own_number : (s : ℕ) (e : Server) (own : LoSession) → 1 ≤ s → IsServer e → slice_get e.sessions.items (s - 1) ≡ Some own → own.s ≡ s
 own_number s e own low sound stood = let is : s - 1 + 1 ≡ s = omega arith in (sound.placed (s - 1) own stood).number ∙ is
 
 -- it is ready for a call
-pub is_ready : (s : ℕ) (e : Engine) (own : LoSession) → 1 ≤ s → CanCall s e → slice_get e.sessions.items (s - 1) ≡ Some own → IsReady (world (xacts_of e) e.store own)
+pub is_ready : (s : ℕ) (e : Server) (own : LoSession) → 1 ≤ s → CanCall s e → slice_get e.sessions.items (s - 1) ≡ Some own → IsReady (world (xacts_of e) e.store own)
 is_ready s e own low can stood = record {
   transaction = subst (λ (n : ℕ). 0 < length (levels_of (xacts_of e) n)) (sym number) can.begun;
   whole = can.sound.whole;
@@ -34,8 +34,8 @@ is_ready s e own low can stood = record {
     number : own.s ≡ s
     number = own_number s e own low can.sound stood
 
--- A call of a session. Beside transactions, objects and the session's entry the engine is as it was.
-pub record IsCall (s : ℕ) (old new : Engine) (own own' : LoSession) : Type 0 where
+-- A call of a session. Beside transactions, objects and the session's entry the server is as it was.
+pub record IsCall (s : ℕ) (old new : Server) (own own' : LoSession) : Type 0 where
   pub low : 1 ≤ s
   pub high : s ≤ 16
   pub can : CanCall s old
@@ -47,7 +47,7 @@ pub record IsCall (s : ℕ) (old new : Engine) (own own' : LoSession) : Type 0 w
   pub variables : new.variables ≡ old.variables
   pub keeps : Keeps (world (xacts_of old) old.store own) (world (xacts_of new) new.store own')
 
-module _ (s : ℕ) (old new : Engine) (own own' : LoSession) (call : IsCall s old new own own') where
+module _ (s : ℕ) (old new : Server) (own own' : LoSession) (call : IsCall s old new own own') where
   -- the levels of each session
   pub same_names : (t : ℕ) → names_in new t ≡ names_in old t
   same_names t = ap (λ (x : Transactions). levels_of x t) call.keeps.others.rest
@@ -65,7 +65,7 @@ module _ (s : ℕ) (old new : Engine) (own own' : LoSession) (call : IsCall s ol
       let low = call.low in
       ap (λ (sessions : List LoSession). slice_get sessions (t - 1)) call.set ∙ set_other old.sessions.items (s - 1) (t - 1) own' (λ same. other (omega (arith, low, low', same)))
 
-  -- the engine is sound
+  -- the server is sound
 
   number : own'.s ≡ s
   number = call.keeps.session ∙ own_number s old own call.low call.can.sound call.stood
@@ -77,7 +77,7 @@ module _ (s : ℕ) (old new : Engine) (own own' : LoSession) (call : IsCall s ol
       subst (λ (tables : Tables). IsPermutation (xacts_of new).held (all_holds new.sessions.items ++ cursor_holds (cursors_in tables))) (sym call.tables)
       (subst (λ (sessions : List LoSession). IsPermutation (xacts_of new).held (all_holds sessions ++ cursors)) (sym call.set) all)
 
-  pub call_sound : IsEngine new
+  pub call_sound : IsServer new
   call_sound = record {
     goes = call.keeps.ready.goes;
     whole = call.keeps.ready.whole;

@@ -1,4 +1,4 @@
--- Objects of what is committed: an engine's pages read, in the view of it, as the edits that a state has committed, and the objects
+-- Objects of what is committed: a server's pages read, in the view of it, as the edits that a state has committed, and the objects
 -- of these are such as an opening can have.
 use Rattle.std.proofs.Common.{◌≡◌, ◌≤◌, ℕ, ◌+◌, ◌^◌, List, [], ◌∷◌, length, Option, Some, None, ap, sym, subst, ◌∙◌, refl, arith}
 use Rattle.std.specs.Prelude.{is_some}
@@ -15,8 +15,8 @@ use Rattle.lo_restore.specs.Objects.{AreFit, IsFit}
 use Rattle.row_versions.specs.Looks.{IsLook}
 use Rattle.xact_core.specs.declared.snapshot.Snapshot.{Snapshot}
 use Rattle.xact_core.specs.Kept.{current_committed}
-use Rattle.lo_machine.specs.declared.engine.Engine.{Engine}
-use Rattle.lo_machine.specs.Engine.{StandsFor, xacts_of}
+use Rattle.lo_machine.specs.declared.server.Server.{Server}
+use Rattle.lo_machine.specs.Server.{StandsFor, xacts_of}
 use Rattle.lo_machine.specs.Fitting.{IsSized}
 use Rattle.lo_machine.specs.State.{State, committed_edits, edits}
 use Rattle.lo_machine.proofs.CommittedRows.{seen_committed}
@@ -28,7 +28,7 @@ few_objects least held [] few are = omega (arith, few)
 few_objects least held (o ∷ os) few are =
     omega (arith, are.1, few_objects (o.oid + 1) (held + blocks_held o) os (omega (arith, are.0.most)) are.2)
 
-module _ (e : Engine) (st : State) (stands : StandsFor e st) where
+module _ (e : Server) (st : State) (stands : StandsFor e st) where
   pub committed_reads : (v : Snapshot) → v ≡ current_committed (xacts_of e) → IsLook (xacts_of e) v → ReadsAs (xacts_of e) v e.store.pages (committed_edits st)
   committed_reads v is kept = subst (ReadsAs (xacts_of e) v e.store.pages) (seen_committed e st stands v is) (reads_as (xacts_of e) e.store.pages (edits st) v stands.has.edits kept)
 

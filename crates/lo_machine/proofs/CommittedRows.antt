@@ -1,4 +1,4 @@
--- What an engine's tables need to be saved in the view of what is committed: it has the rows that a state has committed, and these
+-- What a server's tables need to be saved in the view of what is committed: it has the rows that a state has committed, and these
 -- are rows that an opening can have.
 use Rattle.std.proofs.Common.{◌≡◌, ℕ, ℤ, ◌+◌, List, [], ◌∷◌, Option, ap, subst, ◌∙◌}
 use Rattle.lo_base.specs.declared.column.Column.{Column}
@@ -15,8 +15,8 @@ use Rattle.lo_restore.specs.TablesSaved.{AreRowsFit, CanBeSaved, IsRowFit}
 use Rattle.row_tables.specs.Catalog.{columns_in}
 use Rattle.xact_core.specs.declared.snapshot.Snapshot.{Snapshot}
 use Rattle.xact_core.specs.Kept.{current_committed}
-use Rattle.lo_machine.specs.declared.engine.Engine.{Engine}
-use Rattle.lo_machine.specs.Engine.{StandsFor, xacts_of}
+use Rattle.lo_machine.specs.declared.server.Server.{Server}
+use Rattle.lo_machine.specs.Server.{StandsFor, xacts_of}
 use Rattle.lo_machine.specs.Fitting.{IsTableRow}
 use Rattle.lo_machine.specs.FlatRows.{AreFlatValues, IsFlatValue}
 use Rattle.lo_machine.specs.State.{State, committed_edits, edits, now, session_of}
@@ -41,7 +41,7 @@ arrays_there (c ∷ columns) (v ∷ values) flat = (array_there c.kind v flat.0,
 row_fits : (columns : List Column) (i : ℤ) (values : List Value) → IsTableRow columns i values → IsRowFit columns values
 row_fits columns i values is = record { fits = is.plan; arrays = arrays_there columns values is.flat }
 
-module _ (e : Engine) (st : State) (stands : StandsFor e st) where
+module _ (e : Server) (st : State) (stands : StandsFor e st) where
   abbrev seen : Snapshot → List (Edit Deed)
   seen v = view v.clock v.viewer (edits st)
 

@@ -16,7 +16,7 @@ use Rattle.row_tables.specs.declared.cursors.Cursors.{Cursors}
 use Rattle.row_tables.specs.Cursors.{HoldsOwn, cursor_by, cursors_of, is_own, own_cursors, hold_of, holds_in}
 use Rattle.xact_core.specs.declared.snapshot.Snapshot.{Snapshot}
 use Rattle.xact_core.specs.Kept.{view_at}
-use Rattle.lo_machine.specs.Engine.{later_view}
+use Rattle.lo_machine.specs.Server.{later_view}
 use Rattle.lo_machine.specs.Later.{all_later_cursors}
 
 -- lists made number by number

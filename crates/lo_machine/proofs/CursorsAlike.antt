@@ -12,7 +12,7 @@ use Rattle.lo_model.specs.Row.{row_in}
 use Rattle.row_tables.specs.CursorRules.{close_row, cursor_columns, cursor_values, declare_row, fetch_row}
 use Rattle.row_tables.specs.RowRules.{values_in}
 use Rattle.lo_machine.specs.Alike.{SeesNone}
-use Rattle.lo_machine.specs.Engine.{IsLeveled}
+use Rattle.lo_machine.specs.Server.{IsLeveled}
 use Rattle.lo_machine.specs.Later.{all_later_cursors, later_cursor}
 use Rattle.lo_machine.specs.Row.{Here, on_tables, tables_here}
 use Rattle.lo_machine.specs.TableRows.{declare_line, declared}

@@ -10,10 +10,10 @@ use Rattle.lo_calls.specs.declared.store.LoStore.{LoStore}
 use Rattle.lo_calls.specs.Row.{Here, Row}
 use Rattle.lo_calls.specs.World.{world, IsReady, Grants, Denies, Keeps}
 use Rattle.row_versions.specs.declared.Core.{Core}
-use Rattle.lo_machine.specs.declared.engine.Engine.{Engine}
+use Rattle.lo_machine.specs.declared.server.Server.{Server}
 use Rattle.lo_machine.specs.Dispatch.{AnswersCall, CanCall, ReadsCall, Stays}
 use Rattle.lo_machine.specs.Dispatch as dispatch
-use Rattle.lo_machine.specs.Engine.{xacts_of}
+use Rattle.lo_machine.specs.Server.{xacts_of}
 use Rattle.lo_machine.specs.Row.{on_objects}
 use Rattle.lo_machine.proofs.CallSteps.{denies, grants, stays_denied}
 use Rattle.lo_machine.proofs.CallsKept.{IsCall, call_sound, is_ready}
@@ -21,24 +21,24 @@ use Rattle.lo_machine.proofs.RowsAlike.{IsObjectsRow}
 use Rattle.lo_machine.proofs.SessionPlaces.{set_same}
 
 -- the entry that was taken from its place
-pub record Takes (s place : ℕ) (e : Engine) (own : LoSession) : Type 0 where
+pub record Takes (s place : ℕ) (e : Server) (own : LoSession) : Type 0 where
   pub place' : place + 1 ≡ s
   pub within : place + 1 ≤ 16
   pub taken : own ≡ slice_index_or e.sessions.items place own
 
-low : (s place : ℕ) (e : Engine) (own : LoSession) → Takes s place e own → 1 ≤ s
+low : (s place : ℕ) (e : Server) (own : LoSession) → Takes s place e own → 1 ≤ s
 low s place e own takes = omega (arith, takes.place')
 
-entry : (s place : ℕ) (e : Engine) (own : LoSession) → Takes s place e own → CanCall s e → slice_get e.sessions.items (s - 1) ≡ Some own
+entry : (s place : ℕ) (e : Server) (own : LoSession) → Takes s place e own → CanCall s e → slice_get e.sessions.items (s - 1) ≡ Some own
 entry s place e own takes can =
     let at : place ≡ s - 1 = omega (arith, takes.place') in
     subst (λ (n : ℕ). slice_get e.sessions.items n ≡ Some own) at (slice_get_read e.sessions.items 16 place own (sym can.sound.sixteen) (omega (arith, takes.within)) takes.taken)
 
-pub call_ready : (s place : ℕ) (e : Engine) (own : LoSession) → Takes s place e own → CanCall s e → IsReady (world (xacts_of e) e.store own)
+pub call_ready : (s place : ℕ) (e : Server) (own : LoSession) → Takes s place e own → CanCall s e → IsReady (world (xacts_of e) e.store own)
 call_ready s place e own takes can = is_ready s e own (low s place e own takes) can (entry s place e own takes can)
 
--- the engine with another core, store and entry
-abbrev pub with_entry : Engine → Core → LoStore → (place : ℕ) → LoSession → Engine
+-- the server with another core, store and entry
+abbrev pub with_entry : Server → Core → LoStore → (place : ℕ) → LoSession → Server
 with_entry e core store place own = record {
   alloc = e.alloc;
   core = core;
@@ -50,11 +50,11 @@ with_entry e core store place own = record {
   undos = e.undos;
 }
 
-abbrev pub with_store : Engine → Core → LoStore → Engine
+abbrev pub with_store : Server → Core → LoStore → Server
 with_store e core store = record { alloc = e.alloc; core = core; store = store; tables = e.tables; sessions = e.sessions; variables = e.variables; failed = e.failed; undos = e.undos }
 
 -- what a call answers, from what lo_calls says of it
-module _ (s : ℕ) (old new : Engine) (own own' : LoSession) (call : IsCall s old new own own') (row : Here → Row) (is : IsObjectsRow row) where
+module _ (s : ℕ) (old new : Server) (own own' : LoSession) (call : IsCall s old new own own') (row : Here → Row) (is : IsObjectsRow row) where
   ok_by : (result : Result Reply Denied) → IfOk result (Grants row (world (xacts_of old) old.store own) (world (xacts_of new) new.store own')) → IfOk result (dispatch.Grants s (on_objects row) old new)
   ok_by (Ok reply) ok = grants s old new own own' call row is reply ok
   ok_by (Err denied) ok = tt
@@ -76,7 +76,7 @@ module _ (s : ℕ) (old new : Engine) (own own' : LoSession) (call : IsCall s ol
     err = err_by result err;
   }
 
-module _ (s place : ℕ) (old : Engine) (own : LoSession) (takes : Takes s place old own) (can : CanCall s old) (core : Core) where
+module _ (s place : ℕ) (old : Server) (own : LoSession) (takes : Takes s place old own) (can : CanCall s old) (core : Core) where
   -- a call that may change the entry
 
   entry_call : (store : LoStore) (own' : LoSession) → Keeps (world (xacts_of old) old.store own) (world core.xacts store own') → IsCall s old (with_entry old core store place own') own own'

@@ -19,8 +19,8 @@ pub record IsWellAndFit (st : State) : Type 0 where
 both_after : (m : Moment) (s : ℕ) (line : Option Request) → IfSome line IsServed → IfSome line (λ r. IsRanged r × HasKeptRanges r) → IsWellAndFit m.state → IsWellAndFit (moment_after m s line).state
 both_after m s None served ranged before = before
 both_after m s (Some r) served ranged before = record {
-  well = well_after m.state s r served.0 served.1 ranged.0 before.well;
-  fit = fit_after m.state s r served.0 served.1 ranged.1 before.well before.fit;
+  well = well_after m.state s r served ranged.0 before.well;
+  fit = fit_after m.state s r served ranged.1 before.well before.fit;
 }
 
 pub both_from : (programs : List (List Request)) (schedule : List ℕ) (m : Moment) → AreServed programs → AreRanged programs → IsWellAndFit m.state → IsWellAndFit (end_from programs m schedule).state

@@ -11,11 +11,11 @@ use Rattle.lo_base.specs.declared.column.Column.{Column}
 use Rattle.lo_base.specs.declared.refusal.Cause.TheVariants.{InBlock, NoRow, NoTable, RowTooBig, TableExists, TooManyTables, WrongType}
 use Rattle.lo_base.specs.declared.refusal.Refusal.{Refusal}
 use Rattle.lo_base.specs.declared.reply.Reply.{Reply}
-use Rattle.lo_base.specs.declared.reply.Reply.TheVariants.{Word, Refused}
+use Rattle.lo_base.specs.declared.reply.Reply.TheVariants.{Word, Refused, Counted}
 use Rattle.lo_base.specs.declared.reply.Word.TheVariants as words
 use Rattle.lo_base.specs.declared.request.Assign.{Assign}
 use Rattle.lo_base.specs.declared.request.Request.{Request}
-use Rattle.lo_base.specs.declared.request.Request.TheVariants.{Begin, Commit, Rollback, Savepoint, Release, RollbackTo, LoCreat, LoCreate, LoOpen, LoClose, LoRead, LoWrite, LoLseek, LoLseek64, LoTell, LoTell64, LoTruncate, LoTruncate64, LoUnlink, LoGet, LoPut, LoFromBytea, CreateTable, Insert, Update, Delete, Get, Ids, Slice, Declare, Fetch, Close, Rewrite, Vacuum, Array, Load, Set, Elem, Show}
+use Rattle.lo_base.specs.declared.request.Request.TheVariants.{Begin, Commit, Rollback, Savepoint, Release, RollbackTo, LoCreat, LoCreate, LoOpen, LoClose, LoRead, LoWrite, LoLseek, LoLseek64, LoTell, LoTell64, LoTruncate, LoTruncate64, LoUnlink, LoGet, LoPut, LoFromBytea, CreateTable, Insert, Update, Delete, Get, Ids, Slice, Declare, Fetch, Close, Rewrite, Vacuum, Array, Load, Set, Elem, Show, Vacuumlo, Step, Finish}
 use Rattle.lo_base.specs.declared.value.Literal.{Literal}
 use Rattle.lo_base.specs.declared.value.Value.{Value}
 use Rattle.lo_calls.specs.DescriptorRows.{open_row, close_row, read_row, write_row, seek_row, tell_row, truncate_row}
@@ -54,10 +54,10 @@ use Rattle.lo_machine.specs.ArrayRows.{array_line, elem_line, load_line, set_lin
 use Rattle.lo_machine.specs.CallRows.{here, called, call_granted, call_refusals, misplaced, misplaced_by}
 use Rattle.lo_machine.specs.Fitting.{AreCreated, FitsObject, FitsTable, HasLiteralRange, HasPlan, HasKeptRanges, HavePlans, IsCounter, IsFit, IsFitDatabase, IsRow, columns_among, is_replaced, replaces}
 use Rattle.lo_machine.specs.Row.{Granted, Here, Row, objects_here, on_objects, on_tables, tables_here, view_of}
-use Rattle.lo_machine.specs.Served.{is_served}
+use Rattle.lo_machine.specs.Served.{is_plain}
 use Rattle.lo_machine.specs.Spelled.{IsLiteral, IsSpelled}
 use Rattle.lo_machine.specs.State.{State, Outcome, and_made, answered, edits, left_with, now, owner_in, refused, refused_in, session_of}
-use Rattle.lo_machine.specs.Step.{failed, granted, granted_or_refused, refusal_of, refusals, state_after}
+use Rattle.lo_machine.specs.Step.{failed, granted, granted_or_refused, refusal_of, refusals, state_after, outcome}
 use Rattle.lo_machine.specs.TableRows.{changes_here, changes_judged, declare_line, get_line, insert_line, inserted, table_columns, update_line, wrong_count}
 use Rattle.lo_machine.specs.Terms.{pool_short, refusal}
 use Rattle.lo_machine.specs.TransactionRows.{begun, rolled_back, committed_in, level_named, level_or_0}
@@ -75,6 +75,10 @@ use Rattle.lo_machine.proofs.TablesAlike.{held_none}
 use Rattle.lo_machine.proofs.Unmet.{first_none, front_none, rest_none, unmet, not_unmet}
 use Rattle.lo_machine.proofs.WellSessions.{none_open}
 use Rattle.lo_machine.proofs.WellStates.{untold}
+use Rattle.orphan_sweep.specs.declared.act.SweepAct.{SweepAct}
+use Rattle.orphan_sweep.specs.declared.act.SweepAct.TheVariants as acts
+use Rattle.lo_machine.specs.SweepRows.{act_granted, act_of, scan_reply, report_in}
+use Rattle.lo_machine.proofs.ToldSweeps.{IsSame, request_same}
 
 -- ends of levels and transactions leave commits, and take open edits alone
 
@@ -478,57 +482,69 @@ module _ (st : State) (s : ℕ) (well : IsWell st) (fit : IsFit st) where
       rewritten_fits t storages (none_open levels (outside t storages (first_none (misplaced st s (Rewrite t storages)) (call_refusals st s (on_tables (rewrite_row t storages))) none).0))
       (unrefused (Rewrite t storages) (on_tables (rewrite_row t storages)) none)
 
-  all_fit : (r : Request) → is_served r ≡ true → IsSpelled r → HasKeptRanges r → first_of (refusals st s r) ≡ None → IsFitDatabase (granted st s r).database
-  all_fit Begin served spelled range none = begun_fits (is_open (session_of st s).transaction)
-  all_fit Commit served spelled range none = committed_in_fits (is_open (session_of st s).transaction) (session_of st s).transaction.failed
-  all_fit Rollback served spelled range none = rolled_back_fits (is_open (session_of st s).transaction)
-  all_fit (Savepoint name) served spelled range none = fit
-  all_fit (Release name) served spelled range none = owned_fits (Word words.Release) (session_of st s) (released_owner s (level_or_0 (level_named st s name))) (released_leaves s (level_or_0 (level_named st s name)))
-  all_fit (RollbackTo name) served spelled range none = undone_fits (Word words.Rollback) (session_of st s) (level_or_0 (level_named st s name))
-  all_fit (LoCreat mode) served spelled range none = on_objects_fits (create_row 0 []) (create_deeds (objects_here at) 0 []) (create_fits (objects_here at) fit.counter 0 [] (omega arith) (omega arith) (unrefused (LoCreat mode) (on_objects (create_row 0 [])) none))
-  all_fit (LoCreate o) served spelled range none = on_objects_fits (create_row o []) (create_deeds (objects_here at) o []) (create_fits (objects_here at) fit.counter o [] range (omega arith) (unrefused (LoCreate o) (on_objects (create_row o [])) none))
-  all_fit (LoOpen o mode) served spelled range none = on_objects_fits (open_row o mode) (open_deeds (objects_here at) o mode) (record { deeds = tt; counter = fit.counter })
-  all_fit (LoClose fd) served spelled range none = on_objects_fits (close_row fd) (close_deeds (objects_here at) fd) (record { deeds = tt; counter = fit.counter })
-  all_fit (LoRead fd count) served spelled range none = on_objects_fits (read_row fd count) (read_deeds (objects_here at) fd count) (read_fits (objects_here at) fit.counter fd count)
-  all_fit (LoWrite fd bytes) served spelled range none = on_objects_fits (write_row fd bytes) (write_deeds (objects_here at) fd bytes) (write_fits (objects_here at) fit.counter fd bytes (unrefused (LoWrite fd bytes) (on_objects (write_row fd bytes)) none))
-  all_fit (LoLseek fd offset whence) served spelled range none = on_objects_fits (seek_row false fd offset whence) (seek_deeds (objects_here at) false fd offset whence) (seek_fits (objects_here at) fit.counter false fd offset whence)
-  all_fit (LoLseek64 fd offset whence) served spelled range none = on_objects_fits (seek_row true fd offset whence) (seek_deeds (objects_here at) true fd offset whence) (seek_fits (objects_here at) fit.counter true fd offset whence)
-  all_fit (LoTell fd) served spelled range none = on_objects_fits (tell_row false fd) (tell_deeds (objects_here at) false fd) (tell_fits (objects_here at) fit.counter false fd)
-  all_fit (LoTell64 fd) served spelled range none = on_objects_fits (tell_row true fd) (tell_deeds (objects_here at) true fd) (tell_fits (objects_here at) fit.counter true fd)
-  all_fit (LoTruncate fd size) served spelled range none = on_objects_fits (truncate_row fd size) (truncate_deeds (objects_here at) fd size) (truncate_fits (objects_here at) fit.counter fd size (unrefused (LoTruncate fd size) (on_objects (truncate_row fd size)) none))
-  all_fit (LoTruncate64 fd size) served spelled range none = on_objects_fits (truncate_row fd size) (truncate_deeds (objects_here at) fd size) (truncate_fits (objects_here at) fit.counter fd size (unrefused (LoTruncate64 fd size) (on_objects (truncate_row fd size)) none))
-  all_fit (LoUnlink o) served spelled range none = on_objects_fits (unlink_row o) (unlink_deeds (objects_here at) o) (record { deeds = (tt, tt); counter = fit.counter })
-  all_fit (LoGet o from count) served spelled range none = on_objects_fits (get_row o from count) (get_deeds (objects_here at) o from count) (record { deeds = tt; counter = fit.counter })
-  all_fit (LoPut o offset bytes) served spelled range none = on_objects_fits (put_row o offset bytes) (put_deeds (objects_here at) o offset bytes) (put_fits (objects_here at) fit.counter o offset bytes (unrefused (LoPut o offset bytes) (on_objects (put_row o offset bytes)) none))
-  all_fit (LoFromBytea o bytes) served spelled range none = on_objects_fits (create_row o bytes) (create_deeds (objects_here at) o bytes) (create_fits (objects_here at) fit.counter o bytes range spelled (unrefused (LoFromBytea o bytes) (on_objects (create_row o bytes)) none))
-  all_fit (CreateTable name columns) served spelled range none = create_table_fits name columns spelled.0 spelled.1 (unrefused (CreateTable name columns) (on_tables (create_table_row name columns)) none)
-  all_fit (Insert t literals) served spelled range none = insert_fits t literals spelled.2 range (unrefused (Insert t literals) (insert_line t literals) none)
-  all_fit (Update t i changes) served spelled range none = update_fits t i changes (literals_of changes spelled.1.1) range (unrefused (Update t i changes) (update_line t i changes) none)
-  all_fit (Delete t i) served spelled range none = rows_fit (on_tables (delete_row t i) at).granted refl fit.counter (tt, tt) (tt, tt) (tt, tt)
-  all_fit (Get t i) served spelled range none = reads_fit (get_line t i at).granted refl refl refl
-  all_fit (Ids t) served spelled range none = reads_fit (on_tables (ids_row t) at).granted refl refl refl
-  all_fit (Slice t i column from count) served spelled range none = reads_fit (on_tables (slice_row t i column from count) at).granted refl refl refl
-  all_fit (Declare name t i) served spelled range none = reads_fit (declare_line name t i at).granted refl refl refl
-  all_fit (Fetch name column from count) served spelled range none = reads_fit (on_tables (cursors.fetch_row name column from count) at).granted refl refl refl
-  all_fit (Close name) served spelled range none = reads_fit (on_tables (cursors.close_row name) at).granted refl refl refl
-  all_fit (Rewrite t storages) served spelled range none = rewrite_fits t storages none
-  all_fit (Array name text) served spelled range none = reads_fit (array_line name text at).granted refl refl refl
-  all_fit (Load name t i column) served spelled range none = reads_fit (load_line name t i column at).granted refl refl refl
-  all_fit (Set name sub value) served spelled range none = reads_fit (set_line name sub value at).granted refl refl refl
-  all_fit (Elem name sub) served spelled range none = reads_fit (elem_line name sub at).granted refl refl refl
-  all_fit (Show name) served spelled range none = reads_fit (show_line name at).granted refl refl refl
-  all_fit Vacuum served spelled range none = fit
-  all_fit r served spelled range none = absurd (false≢true served)
+  -- an act of a clean-up
+  act_fits : (act : SweepAct) → IsFitDatabase (act_granted st s act).database
+  act_fits (acts.Scan table column) = fit
+  act_fits acts.Begin = begun_fits (is_open (session_of st s).transaction)
+  act_fits (acts.Unlink o) = on_objects_fits (unlink_row o) (unlink_deeds (objects_here at) o) (record { deeds = (tt, tt); counter = fit.counter })
+  act_fits acts.Commit = committed_in_fits (is_open (session_of st s).transaction) (session_of st s).transaction.failed
+  act_fits acts.Rollback = rolled_back_fits (is_open (session_of st s).transaction)
+  act_fits acts.Report = fit
+  act_fits acts.Idle = fit
+
+  all_fit : (r : Request) → IsSpelled r → HasKeptRanges r → first_of (refusals st s r) ≡ None → IsFitDatabase (granted st s r).database
+  all_fit Begin spelled range none = begun_fits (is_open (session_of st s).transaction)
+  all_fit Commit spelled range none = committed_in_fits (is_open (session_of st s).transaction) (session_of st s).transaction.failed
+  all_fit Rollback spelled range none = rolled_back_fits (is_open (session_of st s).transaction)
+  all_fit (Savepoint name) spelled range none = fit
+  all_fit (Release name) spelled range none = owned_fits (Word words.Release) (session_of st s) (released_owner s (level_or_0 (level_named st s name))) (released_leaves s (level_or_0 (level_named st s name)))
+  all_fit (RollbackTo name) spelled range none = undone_fits (Word words.Rollback) (session_of st s) (level_or_0 (level_named st s name))
+  all_fit (LoCreat mode) spelled range none = on_objects_fits (create_row 0 []) (create_deeds (objects_here at) 0 []) (create_fits (objects_here at) fit.counter 0 [] (omega arith) (omega arith) (unrefused (LoCreat mode) (on_objects (create_row 0 [])) none))
+  all_fit (LoCreate o) spelled range none = on_objects_fits (create_row o []) (create_deeds (objects_here at) o []) (create_fits (objects_here at) fit.counter o [] range (omega arith) (unrefused (LoCreate o) (on_objects (create_row o [])) none))
+  all_fit (LoOpen o mode) spelled range none = on_objects_fits (open_row o mode) (open_deeds (objects_here at) o mode) (record { deeds = tt; counter = fit.counter })
+  all_fit (LoClose fd) spelled range none = on_objects_fits (close_row fd) (close_deeds (objects_here at) fd) (record { deeds = tt; counter = fit.counter })
+  all_fit (LoRead fd count) spelled range none = on_objects_fits (read_row fd count) (read_deeds (objects_here at) fd count) (read_fits (objects_here at) fit.counter fd count)
+  all_fit (LoWrite fd bytes) spelled range none = on_objects_fits (write_row fd bytes) (write_deeds (objects_here at) fd bytes) (write_fits (objects_here at) fit.counter fd bytes (unrefused (LoWrite fd bytes) (on_objects (write_row fd bytes)) none))
+  all_fit (LoLseek fd offset whence) spelled range none = on_objects_fits (seek_row false fd offset whence) (seek_deeds (objects_here at) false fd offset whence) (seek_fits (objects_here at) fit.counter false fd offset whence)
+  all_fit (LoLseek64 fd offset whence) spelled range none = on_objects_fits (seek_row true fd offset whence) (seek_deeds (objects_here at) true fd offset whence) (seek_fits (objects_here at) fit.counter true fd offset whence)
+  all_fit (LoTell fd) spelled range none = on_objects_fits (tell_row false fd) (tell_deeds (objects_here at) false fd) (tell_fits (objects_here at) fit.counter false fd)
+  all_fit (LoTell64 fd) spelled range none = on_objects_fits (tell_row true fd) (tell_deeds (objects_here at) true fd) (tell_fits (objects_here at) fit.counter true fd)
+  all_fit (LoTruncate fd size) spelled range none = on_objects_fits (truncate_row fd size) (truncate_deeds (objects_here at) fd size) (truncate_fits (objects_here at) fit.counter fd size (unrefused (LoTruncate fd size) (on_objects (truncate_row fd size)) none))
+  all_fit (LoTruncate64 fd size) spelled range none = on_objects_fits (truncate_row fd size) (truncate_deeds (objects_here at) fd size) (truncate_fits (objects_here at) fit.counter fd size (unrefused (LoTruncate64 fd size) (on_objects (truncate_row fd size)) none))
+  all_fit (LoUnlink o) spelled range none = on_objects_fits (unlink_row o) (unlink_deeds (objects_here at) o) (record { deeds = (tt, tt); counter = fit.counter })
+  all_fit (LoGet o from count) spelled range none = on_objects_fits (get_row o from count) (get_deeds (objects_here at) o from count) (record { deeds = tt; counter = fit.counter })
+  all_fit (LoPut o offset bytes) spelled range none = on_objects_fits (put_row o offset bytes) (put_deeds (objects_here at) o offset bytes) (put_fits (objects_here at) fit.counter o offset bytes (unrefused (LoPut o offset bytes) (on_objects (put_row o offset bytes)) none))
+  all_fit (LoFromBytea o bytes) spelled range none = on_objects_fits (create_row o bytes) (create_deeds (objects_here at) o bytes) (create_fits (objects_here at) fit.counter o bytes range spelled (unrefused (LoFromBytea o bytes) (on_objects (create_row o bytes)) none))
+  all_fit (CreateTable name columns) spelled range none = create_table_fits name columns spelled.0 spelled.1 (unrefused (CreateTable name columns) (on_tables (create_table_row name columns)) none)
+  all_fit (Insert t literals) spelled range none = insert_fits t literals spelled.2 range (unrefused (Insert t literals) (insert_line t literals) none)
+  all_fit (Update t i changes) spelled range none = update_fits t i changes (literals_of changes spelled.1.1) range (unrefused (Update t i changes) (update_line t i changes) none)
+  all_fit (Delete t i) spelled range none = rows_fit (on_tables (delete_row t i) at).granted refl fit.counter (tt, tt) (tt, tt) (tt, tt)
+  all_fit (Get t i) spelled range none = reads_fit (get_line t i at).granted refl refl refl
+  all_fit (Ids t) spelled range none = reads_fit (on_tables (ids_row t) at).granted refl refl refl
+  all_fit (Slice t i column from count) spelled range none = reads_fit (on_tables (slice_row t i column from count) at).granted refl refl refl
+  all_fit (Declare name t i) spelled range none = reads_fit (declare_line name t i at).granted refl refl refl
+  all_fit (Fetch name column from count) spelled range none = reads_fit (on_tables (cursors.fetch_row name column from count) at).granted refl refl refl
+  all_fit (Close name) spelled range none = reads_fit (on_tables (cursors.close_row name) at).granted refl refl refl
+  all_fit (Rewrite t storages) spelled range none = rewrite_fits t storages none
+  all_fit (Array name text) spelled range none = reads_fit (array_line name text at).granted refl refl refl
+  all_fit (Load name t i column) spelled range none = reads_fit (load_line name t i column at).granted refl refl refl
+  all_fit (Set name sub value) spelled range none = reads_fit (set_line name sub value at).granted refl refl refl
+  all_fit (Elem name sub) spelled range none = reads_fit (elem_line name sub at).granted refl refl refl
+  all_fit (Show name) spelled range none = reads_fit (show_line name at).granted refl refl refl
+  all_fit Vacuum spelled range none = fit
+  all_fit (Vacuumlo dry limit) spelled range none = fit
+  all_fit Step spelled range none = act_fits (act_of st s)
+  all_fit Finish spelled range none = act_fits (act_of st s)
 
   -- granted or refused
-  outcome_fits : (r : Request) → is_served r ≡ true → IsSpelled r → HasKeptRanges r → IsFitDatabase (granted_or_refused st s r (refusal_of st s r)).database
-  outcome_fits r served spelled range = by (refusal_of st s r) refl
+  outcome_fits : (r : Request) → IsSpelled r → HasKeptRanges r → IsFitDatabase (granted_or_refused st s r (refusal_of st s r)).database
+  outcome_fits r spelled range = by (refusal_of st s r) refl
     where
       by : (term : Option Refusal) → refusal_of st s r ≡ term → IsFitDatabase (granted_or_refused st s r term).database
-      by None is = all_fit r served spelled range (first_none (failed st s r) (refusals st s r) is).1
+      by None is = all_fit r spelled range (first_none (failed st s r) (refusals st s r) is).1
       by (Some term) is = refused_fits term
 
-pub fit_after : (st : State) (s : ℕ) (r : Request) → is_served r ≡ true → IsSpelled r → HasKeptRanges r → IsWell st → IsFit st → IsFit (state_after st s r)
-fit_after st s r served spelled range well fit =
-    subst (λ (done : Outcome). IsFitDatabase done.database) (sym (untold st s r (is_some (refusal_of st s r)) (granted_or_refused st s r (refusal_of st s r)) served))
-    (outcome_fits st s well fit r served spelled range)
+pub fit_after : (st : State) (s : ℕ) (r : Request) → IsSpelled r → HasKeptRanges r → IsWell st → IsFit st → IsFit (state_after st s r)
+fit_after st s r spelled range well fit =
+    let done : Outcome = granted_or_refused st s r (refusal_of st s r) in
+    subst IsFitDatabase (sym (request_same st s r (is_some (refusal_of st s r)) done).database) (outcome_fits st s well fit r spelled range)

@@ -36,11 +36,11 @@ use Rattle.row_tables.specs.World as calls
 use Rattle.row_tables.specs.World.{World, world, here_in as read_in}
 use Rattle.xact_core.specs.declared.snapshot.Snapshot.{Snapshot}
 use Rattle.xact_core.specs.Kept.{current}
-use Rattle.lo_machine.specs.declared.engine.Engine.{Engine}
+use Rattle.lo_machine.specs.declared.server.Server.{Server}
 use Rattle.lo_machine.specs.ArrayRows.{array_of_value, load_line, no_array, variable_becomes, variable_set}
 use Rattle.lo_machine.specs.CallRows.{Shared}
 use Rattle.lo_machine.specs.Dispatch.{CanCall, Finds, here_in}
-use Rattle.lo_machine.specs.Engine.{xacts_of}
+use Rattle.lo_machine.specs.Server.{xacts_of}
 use Rattle.lo_machine.specs.FlatRows.{AreFlatCells, AreFlatRows, AreFlatValues, IsFlatDeed, IsFlatPut}
 use Rattle.lo_machine.specs.Literals.{IsArrayOf}
 use Rattle.lo_machine.specs.Row.{Here, tables_here, view_of, with_variables}
@@ -133,14 +133,14 @@ told_tells t i columns w v row cells tells told = record {
 
 -- a table that is not there, and what refuses a row in the view
 
-module _ (s : ℕ) (old : Engine) (t : List ℕ) (found : Option (List Column)) (is : found ≡ option_map columns_of (table_in t (tables_in old.tables))) (none : found ≡ None) (i : ℤ) where
+module _ (s : ℕ) (old : Server) (t : List ℕ) (found : Option (List Column)) (is : found ≡ option_map columns_of (table_in t (tables_in old.tables))) (none : found ≡ None) (i : ℤ) where
   pub get_unknown : RefusedBy s old (get_line t i) (refusal NoTable (pos 0))
   get_unknown ys shared sessions variables finds = rw (unknown_table s old t found is none ys shared sessions variables finds) refl
 
   pub load_unknown : (name column : List ℕ) → RefusedBy s old (load_line name t i column) (refusal NoTable (pos 0))
   load_unknown name column ys shared sessions variables finds = rw (unknown_table s old t found is none ys shared sessions variables finds) refl
 
-module _ (s : ℕ) (old : Engine) (can : CanCall s old) (t : List ℕ) (i : ℤ) (denied : Denied) (denies : calls.RefusesIn (get_row t i) (world (xacts_of old) old.tables s) (current (xacts_of old) s) denied) (r : Refusal) (by_it : denied ≡ By r) where
+module _ (s : ℕ) (old : Server) (can : CanCall s old) (t : List ℕ) (i : ℤ) (denied : Denied) (denies : calls.RefusesIn (get_row t i) (world (xacts_of old) old.tables s) (current (xacts_of old) s) denied) (r : Refusal) (by_it : denied ≡ By r) where
   pub refused_get : calls.RefusesIn (get_row t i) (world (xacts_of old) old.tables s) (current (xacts_of old) s) (By r)
   refused_get = subst (λ (d : Denied). calls.RefusesIn (get_row t i) (world (xacts_of old) old.tables s) (current (xacts_of old) s) d) by_it denies
 
@@ -156,7 +156,7 @@ module _ (s : ℕ) (old : Engine) (can : CanCall s old) (t : List ℕ) (i : ℤ)
 
 -- the row that was found
 
-module _ (s : ℕ) (old : Engine) (can : CanCall s old) (t : List ℕ) (i : ℤ) (found : Option (List Column)) (is : found ≡ option_map columns_of (table_in t (tables_in old.tables))) (columns : List Column) (some : found ≡ Some columns) (row : List Cell) (tells : calls.Tells (get_row t i) (world (xacts_of old) old.tables s) (current (xacts_of old) s) (replies.Row row)) where
+module _ (s : ℕ) (old : Server) (can : CanCall s old) (t : List ℕ) (i : ℤ) (found : Option (List Column)) (is : found ≡ option_map columns_of (table_in t (tables_in old.tables))) (columns : List Column) (some : found ≡ Some columns) (row : List Cell) (tells : calls.Tells (get_row t i) (world (xacts_of old) old.tables s) (current (xacts_of old) s) (replies.Row row)) where
   module _ (ys : List (Edit Deed)) (shared : Shared) (sessions : ℕ → Session) (variables : ℕ → List Variable) (finds : Finds s old ys shared sessions variables) where
     abbrev inner : Here
     inner = here_in s old ys shared sessions variables

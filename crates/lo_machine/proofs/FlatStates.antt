@@ -12,11 +12,11 @@ use Rattle.lo_base.specs.declared.column.Column.{Column}
 use Rattle.lo_base.specs.declared.refusal.Cause.TheVariants.{NoRow, NoTable, WrongType}
 use Rattle.lo_base.specs.declared.refusal.Refusal.{Refusal}
 use Rattle.lo_base.specs.declared.reply.Reply.{Reply}
-use Rattle.lo_base.specs.declared.reply.Reply.TheVariants.{Word, Refused}
+use Rattle.lo_base.specs.declared.reply.Reply.TheVariants.{Word, Refused, Counted}
 use Rattle.lo_base.specs.declared.reply.Word.TheVariants as words
 use Rattle.lo_base.specs.declared.request.Assign.{Assign}
 use Rattle.lo_base.specs.declared.request.Request.{Request}
-use Rattle.lo_base.specs.declared.request.Request.TheVariants.{Begin, Commit, Rollback, Savepoint, Release, RollbackTo, LoCreat, LoCreate, LoOpen, LoClose, LoRead, LoWrite, LoLseek, LoLseek64, LoTell, LoTell64, LoTruncate, LoTruncate64, LoUnlink, LoGet, LoPut, LoFromBytea, CreateTable, Insert, Update, Delete, Get, Ids, Slice, Declare, Fetch, Close, Rewrite, Vacuum, Array as ArrayText, Load, Set, Elem, Show}
+use Rattle.lo_base.specs.declared.request.Request.TheVariants.{Begin, Commit, Rollback, Savepoint, Release, RollbackTo, LoCreat, LoCreate, LoOpen, LoClose, LoRead, LoWrite, LoLseek, LoLseek64, LoTell, LoTell64, LoTruncate, LoTruncate64, LoUnlink, LoGet, LoPut, LoFromBytea, CreateTable, Insert, Update, Delete, Get, Ids, Slice, Declare, Fetch, Close, Rewrite, Vacuum, Array as ArrayText, Load, Set, Elem, Show, Vacuumlo, Step, Finish}
 use Rattle.lo_base.specs.declared.value.Literal.{Literal}
 use Rattle.lo_base.specs.declared.value.Value.{Value}
 use Rattle.lo_calls.specs.DescriptorRows.{open_row, close_row, read_row, write_row, seek_row, tell_row, truncate_row}
@@ -44,7 +44,7 @@ use Rattle.lo_machine.specs.ArrayRows.{array_here, array_line, array_of_value, e
 use Rattle.lo_machine.specs.CallRows.{here, called, call_granted, call_refusals, misplaced}
 use Rattle.lo_machine.specs.FlatRows.{AreFlatRows, AreFlatValues, IsFlatDeed, IsFlatPut}
 use Rattle.lo_machine.specs.Row.{Granted, Here, Row, objects_here, on_objects, on_tables, tables_here, view_of}
-use Rattle.lo_machine.specs.Served.{IsRanged, is_served}
+use Rattle.lo_machine.specs.Served.{IsRanged, is_plain}
 use Rattle.lo_machine.specs.Spelled.{IsSpelled, names_of}
 use Rattle.lo_machine.specs.State.{State, Outcome, now, edits, session_of, variables_of, answered, left_with, owner_in, refused, refused_in}
 use Rattle.lo_machine.specs.Step.{failed, granted, granted_or_refused, refusal_of, refusals}
@@ -58,6 +58,9 @@ use Rattle.lo_machine.proofs.FlatEdits.{IsFlatEdit, IsFlatIfThere, KeepTables, A
 use Rattle.lo_machine.proofs.FlatLiterals.{changes_flat, set_all_held, text_held, under_held, values_flat, variable_held}
 use Rattle.lo_machine.proofs.ObjectDeeds.{AreOfObjects, create_deeds, unlink_deeds, get_deeds, put_deeds, open_deeds, close_deeds, read_deeds, write_deeds, seek_deeds, tell_deeds, truncate_deeds}
 use Rattle.lo_machine.proofs.Unmet.{first_none, front_none, unmet, not_unmet}
+use Rattle.orphan_sweep.specs.declared.act.SweepAct.{SweepAct}
+use Rattle.orphan_sweep.specs.declared.act.SweepAct.TheVariants as acts
+use Rattle.lo_machine.specs.SweepRows.{act_granted, act_of, scan_reply, report_in}
 
 -- what an outcome leaves of rows, tables and variables
 pub record IsKept (done : Outcome) : Type 0 where
@@ -293,52 +296,64 @@ module _ (st : State) (s : ℕ) (well : IsWell st) where
       held : IsHeld (array_set (array_here at name) sub value)
       held = set_held (array_here at name) sub value (variable_held name (variables_of st s) (well.held s)) fits ranged.0 ranged.1
 
-  all_kept : (r : Request) → is_served r ≡ true → IsSpelled r → IsRanged r → first_of (refusals st s r) ≡ None → IsKept (granted st s r)
-  all_kept Begin served spelled ranged none = begun_kept (is_open (session_of st s).transaction)
-  all_kept Commit served spelled ranged none = committed_in_kept (is_open (session_of st s).transaction) (session_of st s).transaction.failed
-  all_kept Rollback served spelled ranged none = rolled_back_kept (is_open (session_of st s).transaction)
-  all_kept (Savepoint name) served spelled ranged none = left_kept (Word words.Savepoint) es _ well.flat
-  all_kept (Release name) served spelled ranged none = left_kept (Word words.Release) _ _ (flat_owned all_tables (released_owner s (level_or_0 (level_named st s name))) es well.flat)
-  all_kept (RollbackTo name) served spelled ranged none = left_kept (Word words.Rollback) _ _ (undone_flat (level_or_0 (level_named st s name)))
-  all_kept (LoCreat mode) served spelled ranged none = on_objects_kept (create_row 0 []) (create_deeds (objects_here at) 0 [])
-  all_kept (LoCreate o) served spelled ranged none = on_objects_kept (create_row o []) (create_deeds (objects_here at) o [])
-  all_kept (LoOpen o mode) served spelled ranged none = on_objects_kept (open_row o mode) (open_deeds (objects_here at) o mode)
-  all_kept (LoClose fd) served spelled ranged none = on_objects_kept (close_row fd) (close_deeds (objects_here at) fd)
-  all_kept (LoRead fd count) served spelled ranged none = on_objects_kept (read_row fd count) (read_deeds (objects_here at) fd count)
-  all_kept (LoWrite fd bytes) served spelled ranged none = on_objects_kept (write_row fd bytes) (write_deeds (objects_here at) fd bytes)
-  all_kept (LoLseek fd offset whence) served spelled ranged none = on_objects_kept (seek_row false fd offset whence) (seek_deeds (objects_here at) false fd offset whence)
-  all_kept (LoLseek64 fd offset whence) served spelled ranged none = on_objects_kept (seek_row true fd offset whence) (seek_deeds (objects_here at) true fd offset whence)
-  all_kept (LoTell fd) served spelled ranged none = on_objects_kept (tell_row false fd) (tell_deeds (objects_here at) false fd)
-  all_kept (LoTell64 fd) served spelled ranged none = on_objects_kept (tell_row true fd) (tell_deeds (objects_here at) true fd)
-  all_kept (LoTruncate fd size) served spelled ranged none = on_objects_kept (truncate_row fd size) (truncate_deeds (objects_here at) fd size)
-  all_kept (LoTruncate64 fd size) served spelled ranged none = on_objects_kept (truncate_row fd size) (truncate_deeds (objects_here at) fd size)
-  all_kept (LoUnlink o) served spelled ranged none = on_objects_kept (unlink_row o) (unlink_deeds (objects_here at) o)
-  all_kept (LoGet o from count) served spelled ranged none = on_objects_kept (get_row o from count) (get_deeds (objects_here at) o from count)
-  all_kept (LoPut o offset bytes) served spelled ranged none = on_objects_kept (put_row o offset bytes) (put_deeds (objects_here at) o offset bytes)
-  all_kept (LoFromBytea o bytes) served spelled ranged none = on_objects_kept (create_row o bytes) (create_deeds (objects_here at) o bytes)
-  all_kept (CreateTable name columns) served spelled ranged none = create_table_kept name columns spelled.1.distinct
-  all_kept (Insert t literals) served spelled ranged none = insert_kept t literals (unrefused (Insert t literals) (insert_line t literals) none)
-  all_kept (Update t i changes) served spelled ranged none = update_kept t i changes (unrefused (Update t i changes) (update_line t i changes) none)
-  all_kept (Delete t i) served spelled ranged none = on_rows_kept (on_tables (delete_row t i) at).granted refl refl (tt, tt)
-  all_kept (Get t i) served spelled ranged none = on_rows_kept (get_line t i at).granted refl refl tt
-  all_kept (Ids t) served spelled ranged none = on_rows_kept (on_tables (ids_row t) at).granted refl refl tt
-  all_kept (Slice t i column from count) served spelled ranged none = on_rows_kept (on_tables (slice_row t i column from count) at).granted refl refl tt
-  all_kept (Declare name t i) served spelled ranged none = on_rows_kept (declare_line name t i at).granted refl refl tt
-  all_kept (Fetch name column from count) served spelled ranged none = on_rows_kept (on_tables (cursors.fetch_row name column from count) at).granted refl refl tt
-  all_kept (Close name) served spelled ranged none = on_rows_kept (on_tables (cursors.close_row name) at).granted refl refl tt
-  all_kept (Rewrite t storages) served spelled ranged none = rewrite_kept t storages
-  all_kept (ArrayText name text) served spelled ranged none = becomes_kept name (array_or_empty (array_of_text text)) (text_held text (first_none (text_refusal text) [] (unrefused (ArrayText name text) (array_line name text) none)).0)
-  all_kept (Load name t i column) served spelled ranged none = load_kept name t i column (unrefused (Load name t i column) (load_line name t i column) none)
-  all_kept (Set name sub value) served spelled ranged none = set_kept name sub value ranged (unrefused (Set name sub value) (set_line name sub value) none)
-  all_kept (Elem name sub) served spelled ranged none = on_rows_kept (elem_line name sub at).granted refl refl tt
-  all_kept (Show name) served spelled ranged none = on_rows_kept (show_line name at).granted refl refl tt
-  all_kept Vacuum served spelled ranged none = answered_kept (Word words.Vacuum)
-  all_kept r served spelled ranged none = absurd (false≢true served)
+  -- an act of a clean-up
+  act_kept : (act : SweepAct) → IsKept (act_granted st s act)
+  act_kept (acts.Scan table column) = answered_kept (scan_reply st s table column)
+  act_kept acts.Begin = begun_kept (is_open (session_of st s).transaction)
+  act_kept (acts.Unlink o) = on_objects_kept (unlink_row o) (unlink_deeds (objects_here at) o)
+  act_kept acts.Commit = committed_in_kept (is_open (session_of st s).transaction) (session_of st s).transaction.failed
+  act_kept acts.Rollback = rolled_back_kept (is_open (session_of st s).transaction)
+  act_kept acts.Report = answered_kept (report_in (st.players s).sweep)
+  act_kept acts.Idle = answered_kept (Word words.Idle)
+
+  all_kept : (r : Request) → IsSpelled r → IsRanged r → first_of (refusals st s r) ≡ None → IsKept (granted st s r)
+  all_kept Begin spelled ranged none = begun_kept (is_open (session_of st s).transaction)
+  all_kept Commit spelled ranged none = committed_in_kept (is_open (session_of st s).transaction) (session_of st s).transaction.failed
+  all_kept Rollback spelled ranged none = rolled_back_kept (is_open (session_of st s).transaction)
+  all_kept (Savepoint name) spelled ranged none = left_kept (Word words.Savepoint) es _ well.flat
+  all_kept (Release name) spelled ranged none = left_kept (Word words.Release) _ _ (flat_owned all_tables (released_owner s (level_or_0 (level_named st s name))) es well.flat)
+  all_kept (RollbackTo name) spelled ranged none = left_kept (Word words.Rollback) _ _ (undone_flat (level_or_0 (level_named st s name)))
+  all_kept (LoCreat mode) spelled ranged none = on_objects_kept (create_row 0 []) (create_deeds (objects_here at) 0 [])
+  all_kept (LoCreate o) spelled ranged none = on_objects_kept (create_row o []) (create_deeds (objects_here at) o [])
+  all_kept (LoOpen o mode) spelled ranged none = on_objects_kept (open_row o mode) (open_deeds (objects_here at) o mode)
+  all_kept (LoClose fd) spelled ranged none = on_objects_kept (close_row fd) (close_deeds (objects_here at) fd)
+  all_kept (LoRead fd count) spelled ranged none = on_objects_kept (read_row fd count) (read_deeds (objects_here at) fd count)
+  all_kept (LoWrite fd bytes) spelled ranged none = on_objects_kept (write_row fd bytes) (write_deeds (objects_here at) fd bytes)
+  all_kept (LoLseek fd offset whence) spelled ranged none = on_objects_kept (seek_row false fd offset whence) (seek_deeds (objects_here at) false fd offset whence)
+  all_kept (LoLseek64 fd offset whence) spelled ranged none = on_objects_kept (seek_row true fd offset whence) (seek_deeds (objects_here at) true fd offset whence)
+  all_kept (LoTell fd) spelled ranged none = on_objects_kept (tell_row false fd) (tell_deeds (objects_here at) false fd)
+  all_kept (LoTell64 fd) spelled ranged none = on_objects_kept (tell_row true fd) (tell_deeds (objects_here at) true fd)
+  all_kept (LoTruncate fd size) spelled ranged none = on_objects_kept (truncate_row fd size) (truncate_deeds (objects_here at) fd size)
+  all_kept (LoTruncate64 fd size) spelled ranged none = on_objects_kept (truncate_row fd size) (truncate_deeds (objects_here at) fd size)
+  all_kept (LoUnlink o) spelled ranged none = on_objects_kept (unlink_row o) (unlink_deeds (objects_here at) o)
+  all_kept (LoGet o from count) spelled ranged none = on_objects_kept (get_row o from count) (get_deeds (objects_here at) o from count)
+  all_kept (LoPut o offset bytes) spelled ranged none = on_objects_kept (put_row o offset bytes) (put_deeds (objects_here at) o offset bytes)
+  all_kept (LoFromBytea o bytes) spelled ranged none = on_objects_kept (create_row o bytes) (create_deeds (objects_here at) o bytes)
+  all_kept (CreateTable name columns) spelled ranged none = create_table_kept name columns spelled.1.distinct
+  all_kept (Insert t literals) spelled ranged none = insert_kept t literals (unrefused (Insert t literals) (insert_line t literals) none)
+  all_kept (Update t i changes) spelled ranged none = update_kept t i changes (unrefused (Update t i changes) (update_line t i changes) none)
+  all_kept (Delete t i) spelled ranged none = on_rows_kept (on_tables (delete_row t i) at).granted refl refl (tt, tt)
+  all_kept (Get t i) spelled ranged none = on_rows_kept (get_line t i at).granted refl refl tt
+  all_kept (Ids t) spelled ranged none = on_rows_kept (on_tables (ids_row t) at).granted refl refl tt
+  all_kept (Slice t i column from count) spelled ranged none = on_rows_kept (on_tables (slice_row t i column from count) at).granted refl refl tt
+  all_kept (Declare name t i) spelled ranged none = on_rows_kept (declare_line name t i at).granted refl refl tt
+  all_kept (Fetch name column from count) spelled ranged none = on_rows_kept (on_tables (cursors.fetch_row name column from count) at).granted refl refl tt
+  all_kept (Close name) spelled ranged none = on_rows_kept (on_tables (cursors.close_row name) at).granted refl refl tt
+  all_kept (Rewrite t storages) spelled ranged none = rewrite_kept t storages
+  all_kept (ArrayText name text) spelled ranged none = becomes_kept name (array_or_empty (array_of_text text)) (text_held text (first_none (text_refusal text) [] (unrefused (ArrayText name text) (array_line name text) none)).0)
+  all_kept (Load name t i column) spelled ranged none = load_kept name t i column (unrefused (Load name t i column) (load_line name t i column) none)
+  all_kept (Set name sub value) spelled ranged none = set_kept name sub value ranged (unrefused (Set name sub value) (set_line name sub value) none)
+  all_kept (Elem name sub) spelled ranged none = on_rows_kept (elem_line name sub at).granted refl refl tt
+  all_kept (Show name) spelled ranged none = on_rows_kept (show_line name at).granted refl refl tt
+  all_kept Vacuum spelled ranged none = answered_kept (Word words.Vacuum)
+  all_kept (Vacuumlo dry limit) spelled ranged none = record { flat = well.flat; named = well.named; held = well.held s }
+  all_kept Step spelled ranged none = act_kept (act_of st s)
+  all_kept Finish spelled ranged none = act_kept (act_of st s)
 
   -- granted or refused
-  pub outcome_kept : (r : Request) → is_served r ≡ true → IsSpelled r → IsRanged r → IsKept (granted_or_refused st s r (refusal_of st s r))
-  outcome_kept r served spelled ranged = by (refusal_of st s r) refl
+  pub outcome_kept : (r : Request) → IsSpelled r → IsRanged r → IsKept (granted_or_refused st s r (refusal_of st s r))
+  outcome_kept r spelled ranged = by (refusal_of st s r) refl
     where
       by : (refusal : Option Refusal) → refusal_of st s r ≡ refusal → IsKept (granted_or_refused st s r refusal)
-      by None is = all_kept r served spelled ranged (first_none (failed st s r) (refusals st s r) is).1
+      by None is = all_kept r spelled ranged (first_none (failed st s r) (refusals st s r) is).1
       by (Some refusal) is = refused_kept refusal

@@ -1,4 +1,4 @@
--- The views that an engine's transactions keep are those that a state keeps for which the engine stands.
+-- The views that a server's transactions keep are those that a state keeps for which the server stands.
 use Rattle.std.proofs.Common.{◌≡◌, ◌<◌, ◌≤◌, ℕ, zero, suc, ◌+◌, ◌-◌, List, [], ◌∷◌, ◌++◌, length, map, Option, Some, None, refl, ap, sym, subst, ◌∙◌, arith, drop, append_assoc}
 use Rattle.std.specs.Prelude.{All, IsPermutation, flat_map, slice_get, slice_index_or}
 use Rattle.std.specs.List.{range_with_len}
@@ -21,8 +21,8 @@ use Rattle.lo_calls.specs.Descriptors.{reading_of, described_by, held_by, holds_
 use Rattle.row_tables.specs.declared.cursors.Cursor.{Cursor as OpenCursor}
 use Rattle.row_tables.specs.Cursors.{holds_in as cursor_holds_in}
 use Rattle.row_tables.specs.Standing.{cursors_in}
-use Rattle.lo_machine.specs.declared.engine.Engine.{Engine}
-use Rattle.lo_machine.specs.Engine.{xacts_of, clock_of, holds_at, all_holds, IsEngine, HasSession, StandsFor, later_view, KeepsViews}
+use Rattle.lo_machine.specs.declared.server.Server.{Server}
+use Rattle.lo_machine.specs.Server.{xacts_of, clock_of, holds_at, all_holds, IsServer, HasSession, StandsFor, later_view, KeepsViews}
 use Rattle.lo_machine.specs.Later.{later_reading, all_later}
 use Rattle.lo_machine.specs.State.{State, session_of}
 use Rattle.lo_machine.proofs.CursorParts.{map_flat_map, same_parts, holds_by_session, own_holds_later, own_holds as own_cursor_holds}
@@ -97,7 +97,7 @@ parts_apart f a b (n ∷ ns) =
     (IsPermutation-append_right (map f (a n) ++ map f (b n)) (map f rest) (first ++ second) (parts_apart f a b ns))
     (four_parts (map f (a n)) (map f (b n)) first second))
 
-module _ (e : Engine) (st : State) (sound : IsEngine e) (stands : StandsFor e st) where
+module _ (e : Server) (st : State) (sound : IsServer e) (stands : StandsFor e st) where
   -- the views that a session keeps for its levels, and those for its readers
   abbrev for_levels : ℕ → List KeptView
   for_levels s = held_by_levels (clock_of e) s (top_level (session_of st s).transaction)

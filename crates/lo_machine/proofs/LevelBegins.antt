@@ -8,16 +8,16 @@ use Rattle.row_tables.proofs.Laws.{with_opened}
 use Rattle.row_tables.proofs.Resting.{for_opened}
 use Rattle.xact_core.specs.Ends.{Opens}
 use Rattle.lo_pages.proofs.Standing.{go_opened, stand_opened}
-use Rattle.lo_machine.specs.declared.engine.Engine.{Engine}
-use Rattle.lo_machine.specs.Engine.{xacts_of, names_in, IsEngine, Becomes}
+use Rattle.lo_machine.specs.declared.server.Server.{Server}
+use Rattle.lo_machine.specs.Server.{xacts_of, names_in, IsServer, Becomes}
 use Rattle.lo_machine.specs.Moves.{unturned, session_opened}
 use Rattle.lo_machine.specs.Well.{IsFirst}
 use Rattle.lo_machine.proofs.LevelMoves.{Turned, Moves, Closes, cs, moved_sound, moved_becomes}
 use Rattle.lo_machine.proofs.LevelSteps.{cursors_kept, ends_none, turned_begun, after_opened}
 use Rattle.lo_machine.proofs.SessionPlaces.{IsEntry, entry_at, set_same}
 
-module _ (s : ℕ) (name : Option (List ℕ)) (names : List (Option (List ℕ))) (old : Engine) (core : Core) (sound : IsEngine old) (more : names_in old s ++ name ∷ [] ≡ names) (first : IsFirst (names_in old s) → IsFirst names) (by : Opens s name (xacts_of old) core.xacts) where
-  abbrev new : Engine
+module _ (s : ℕ) (name : Option (List ℕ)) (names : List (Option (List ℕ))) (old : Server) (core : Core) (sound : IsServer old) (more : names_in old s ++ name ∷ [] ≡ names) (first : IsFirst (names_in old s) → IsFirst names) (by : Opens s name (xacts_of old) core.xacts) where
+  abbrev new : Server
   new = record old { core = core }
 
   abbrev flag : Bool
@@ -50,7 +50,7 @@ module _ (s : ℕ) (name : Option (List ℕ)) (names : List (Option (List ℕ)))
   turned : Turned s names (xacts_of old) (xacts_of new)
   turned = turned_begun s name names (xacts_of old) core.xacts more first by
 
-  pub begun_sound : IsEngine new
+  pub begun_sound : IsServer new
   begun_sound = moved_sound s names flag old new sound moves (xacts_of old) closes turned (go_opened s name (xacts_of old) core.xacts old.store.pages by sound.goes) (sound.undos ∙ sym by.undos)
 
   pub begun_becomes : Becomes s names unturned (session_opened name) old new

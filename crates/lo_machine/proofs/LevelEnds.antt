@@ -29,8 +29,8 @@ use Rattle.xact_core.specs.declared.snapshot.Snapshot.{Snapshot}
 use Rattle.xact_core.specs.Ends.{Ends as Ended, release, undo, commit_at}
 use Rattle.xact_core.specs.Kept.{HoldsWholeViews}
 use Rattle.xact_core.specs.Transactions.{Transactions, levels_of}
-use Rattle.lo_machine.specs.declared.engine.Engine.{Engine}
-use Rattle.lo_machine.specs.Engine.{xacts_of, clock_of, names_in, all_holds, IsNamed, IsEngine, Becomes, Loses}
+use Rattle.lo_machine.specs.declared.server.Server.{Server}
+use Rattle.lo_machine.specs.Server.{xacts_of, clock_of, names_in, all_holds, IsNamed, IsServer, Becomes, Loses}
 use Rattle.lo_machine.proofs.LevelMoves.{Turned, IsAfter, Moves, Closes, TurnsRows, mid_others, mid_levels, mid_clock, mid_undos, mid_whole, mid_goes, moved_sound, moved_becomes}
 use Rattle.lo_machine.proofs.LevelSteps.{turned_ended, after_released, after_undone, after_ended, lost_undone, rows_lost_undone, rows_go_undone}
 use Rattle.lo_machine.proofs.SessionPlaces.{holds_exchanged, own_open}
@@ -39,7 +39,7 @@ below : (s place : ℕ) → place + 1 ≡ s → place ≡ s - 1
 below s place at = omega (arith, at)
 
 -- a session's entry at its place, where its number is one above it
-pub stood_at : (s place : ℕ) (e : Engine) (own : LoSession) → IsEngine e → place + 1 ≡ s → place + 1 ≤ 16 → own ≡ slice_index_or e.sessions.items place own → slice_get e.sessions.items (s - 1) ≡ Some own
+pub stood_at : (s place : ℕ) (e : Server) (own : LoSession) → IsServer e → place + 1 ≡ s → place + 1 ≤ 16 → own ≡ slice_index_or e.sessions.items place own → slice_get e.sessions.items (s - 1) ≡ Some own
 stood_at s place e own sound at within is =
     subst (λ (n : ℕ). slice_get e.sessions.items n ≡ Some own) (below s place at)
     (slice_get_read e.sessions.items 16 place own (sym sound.sixteen) (omega (arith, within)) is)
@@ -47,11 +47,11 @@ stood_at s place e own sound at within is =
 pub set_at : {X : Type 0} (s place : ℕ) (old new : List X) (x : X) → place + 1 ≡ s → new ≡ slice_set old place x → new ≡ slice_set old (s - 1) x
 set_at s place old new x at is = subst (λ (n : ℕ). new ≡ slice_set old n x) (below s place at) is
 
-pub held_at : (s place : ℕ) (e : Engine) (own : LoSession) → IsEngine e → place + 1 ≡ s → place + 1 ≤ 16 → own ≡ slice_index_or e.sessions.items place own → AreHeld (xacts_of e) own.descs
+pub held_at : (s place : ℕ) (e : Server) (own : LoSession) → IsServer e → place + 1 ≡ s → place + 1 ≤ 16 → own ≡ slice_index_or e.sessions.items place own → AreHeld (xacts_of e) own.descs
 held_at s place e own sound at within is = (own_open s e own (omega (arith, at)) sound (stood_at s place e own sound at within is)).held
 
 -- once its descriptors ended, the cursors' holds stand among those that are held
-pub cursors_held : (s place : ℕ) (e : Engine) (own : LoSession) (descs : Descs) (x : Transactions) → IsEngine e → place + 1 ≡ s → place + 1 ≤ 16 → own ≡ slice_index_or e.sessions.items place own → Ends (xacts_of e) x own.descs descs → cursors.AreHeld x (tables.cursors_in e.tables)
+pub cursors_held : (s place : ℕ) (e : Server) (own : LoSession) (descs : Descs) (x : Transactions) → IsServer e → place + 1 ≡ s → place + 1 ≤ 16 → own ≡ slice_index_or e.sessions.items place own → Ends (xacts_of e) x own.descs descs → cursors.AreHeld x (tables.cursors_in e.tables)
 cursors_held s place e own descs x sound at within is ends = record {
   rest = others;
   all = IsPermutation-trans x.held (others ++ mine) (mine ++ others) (holds_exchanged (xacts_of e).held x.held e.sessions.items (s - 1) own (with_descs own descs) mine (stood_at s place e own sound at within is) ends.holds sound.held) (IsPermutation-append_comm others mine);
@@ -71,7 +71,7 @@ pub record CursorsMove (s : ℕ) (old new : Tables) : Type 0 where
   pub named : All (IsNamed (tables.tables_in old)) (cursors.cursors_of s (tables.cursors_in new))
 
 -- it has other descriptors then, and the block is failed or not
-abbrev pub moves_at : (s place place' : ℕ) (flag' : Bool) (old new : Engine) (own : LoSession) (descs : Descs) → IsEngine old → place + 1 ≡ s → place + 1 ≤ 16 → own ≡ slice_index_or old.sessions.items place own → place' + 1 ≡ s → new.sessions.items ≡ slice_set old.sessions.items place (with_descs own descs) → new.failed.items ≡ slice_set old.failed.items place' flag' → new.store ≡ old.store → new.variables ≡ old.variables → CursorsMove s old.tables new.tables → Moves s flag' old new
+abbrev pub moves_at : (s place place' : ℕ) (flag' : Bool) (old new : Server) (own : LoSession) (descs : Descs) → IsServer old → place + 1 ≡ s → place + 1 ≤ 16 → own ≡ slice_index_or old.sessions.items place own → place' + 1 ≡ s → new.sessions.items ≡ slice_set old.sessions.items place (with_descs own descs) → new.failed.items ≡ slice_set old.failed.items place' flag' → new.store ≡ old.store → new.variables ≡ old.variables → CursorsMove s old.tables new.tables → Moves s flag' old new
 moves_at s place place' flag' old new own descs sound at within is at' sessions failed store variables move = record {
   own = own;
   own' = with_descs own descs;
@@ -86,7 +86,7 @@ moves_at s place place' flag' old new own descs sound at within is at' sessions 
   variables = variables;
 }
 
-module _ (s : ℕ) (flag' : Bool) (old new : Engine) (sound : IsEngine old) (moves : Moves s flag' old new) (mid : Transactions) (closes : Closes old moves.own.descs moves.own'.descs new.tables mid) where
+module _ (s : ℕ) (flag' : Bool) (old new : Server) (sound : IsServer old) (moves : Moves s flag' old new) (mid : Transactions) (closes : Closes old moves.own.descs moves.own'.descs new.tables mid) where
   abbrev own : Descs
   own = moves.own.descs
 
@@ -121,7 +121,7 @@ module _ (s : ℕ) (flag' : Bool) (old new : Engine) (sound : IsEngine old) (mov
     turns : Turned s (names left) mid (xacts_of new)
     turns = turned_ended turn s left (names_in old s) mid (xacts_of new) (mid_levels old sound own own' new.tables mid closes s) (omega (arith, few, undos)) by
 
-    ended_sound : GoWith (xacts_of new) pages → new.undos ≡ old.undos + more → IsEngine new
+    ended_sound : GoWith (xacts_of new) pages → new.undos ≡ old.undos + more → IsServer new
     ended_sound go count =
         let before' = mid_undos old sound own own' new.tables mid closes in
         moved_sound s (names left) flag' old new sound moves mid closes turns go (omega (arith, count, undos, before', sound.undos))
@@ -134,7 +134,7 @@ module _ (s : ℕ) (flag' : Bool) (old new : Engine) (sound : IsEngine old) (mov
     releases : Releases s k mid (xacts_of new)
     releases = record { low = low; high = there k high; whole = whole; ends = by }
 
-    pub merged_sound : new.undos ≡ old.undos → IsEngine new
+    pub merged_sound : new.undos ≡ old.undos → IsServer new
     merged_sound count = ended_sound (release s k) (k - 1) 0 (omega arith) by (omega (arith, undos)) (go_released s k mid (xacts_of new) pages releases goes) (omega (arith, count))
 
     pub merged_becomes : flag ≡ flag' → descriptors_of own' ≡ map (descriptor_released k) (descriptors_of own) → after ≡ map (cursor_released k) before → Becomes s (names (k - 1)) (released s k) (session_released k) old new
@@ -149,7 +149,7 @@ module _ (s : ℕ) (flag' : Bool) (old new : Engine) (sound : IsEngine old) (mov
     undoes : UndoesLevel s k mid (xacts_of new)
     undoes = record { low = low; high = there k high; whole = whole; ends = by }
 
-    pub undone_sound : new.undos ≡ old.undos + 1 → IsEngine new
+    pub undone_sound : new.undos ≡ old.undos + 1 → IsServer new
     undone_sound count = ended_sound (undo s k) k 1 (omega arith) by undos (go_undone s k mid (xacts_of new) pages undoes goes) count
 
     pub undone_becomes : descriptors_of own' ≡ descriptors_below k (descriptors_of own) → after ≡ cursors_below k before → Becomes s (names k) (undone s k) (session_undone k flag') old new
@@ -173,7 +173,7 @@ module _ (s : ℕ) (flag' : Bool) (old new : Engine) (sound : IsEngine old) (mov
     aborts : Aborts s mid (xacts_of new)
     aborts = record { some = there 1 some; whole = whole; ends = by }
 
-    pub aborted_sound : new.undos ≡ old.undos → IsEngine new
+    pub aborted_sound : new.undos ≡ old.undos → IsServer new
     aborted_sound count = ended_sound (undo s 1) 0 0 (omega arith) by (omega (arith, undos)) (go_aborted s mid (xacts_of new) pages aborts goes) (omega (arith, count))
 
     pub aborted_becomes : flag' ≡ false → descriptors_of own' ≡ [] → after ≡ cursors_below 1 before → Becomes s [] (aborted s) (λ session. idle_session) old new
@@ -188,7 +188,7 @@ module _ (s : ℕ) (flag' : Bool) (old new : Engine) (sound : IsEngine old) (mov
     commits : Commits s mid (xacts_of new)
     commits = record { some = there 1 some; whole = whole; ends = by }
 
-    pub committed_sound : new.undos ≡ old.undos → IsEngine new
+    pub committed_sound : new.undos ≡ old.undos → IsServer new
     committed_sound count = ended_sound (commit_at s mid.clock) 0 0 (omega arith) by (omega (arith, undos)) (go_committed s mid (xacts_of new) pages commits goes) (omega (arith, count))
 
     pub committed_becomes : flag' ≡ false → descriptors_of own' ≡ [] → after ≡ cursors_below 1 before → Becomes s [] (committed s (clock_of old)) (λ session. idle_session) old new
@@ -202,7 +202,7 @@ module _ (s : ℕ) (flag' : Bool) (old new : Engine) (sound : IsEngine old) (mov
 
 -- What the calls of the tables leave of cursors, as moves have it.
 
-module _ (s : ℕ) (e : Engine) (sound : IsEngine e) (tables' : Tables) (rows : SameRows e.tables tables') (others : (t : ℕ) → t ≢ s → cursors.cursors_of t (tables.cursors_in tables') ≡ cursors.cursors_of t (tables.cursors_in e.tables)) where
+module _ (s : ℕ) (e : Server) (sound : IsServer e) (tables' : Tables) (rows : SameRows e.tables tables') (others : (t : ℕ) → t ≢ s → cursors.cursors_of t (tables.cursors_in tables') ≡ cursors.cursors_of t (tables.cursors_in e.tables)) where
   abbrev there' : Cursor → Type 0
   there' c = IsNamed (tables.tables_in e.tables) c
 

@@ -28,8 +28,8 @@ use Rattle.row_tables.specs.Standing as tables
 use Rattle.row_tables.specs.World.{SameRows}
 use Rattle.row_tables.proofs.Laws.{with_held}
 use Rattle.row_tables.proofs.Resting.{for_held, for_same, goes_same}
-use Rattle.lo_machine.specs.declared.engine.Engine.{Engine}
-use Rattle.lo_machine.specs.Engine.{xacts_of, clock_of, names_in, all_holds, IsLeveled, IsNamed, IsPlaced, IsEngine, HasRows, HasSession, HasSessions, Becomes}
+use Rattle.lo_machine.specs.declared.server.Server.{Server}
+use Rattle.lo_machine.specs.Server.{xacts_of, clock_of, names_in, all_holds, IsLeveled, IsNamed, IsPlaced, IsServer, HasRows, HasSession, HasSessions, Becomes}
 use Rattle.lo_machine.specs.Later.{all_later, all_later_cursors, with_session_at}
 use Rattle.lo_machine.specs.Well.{IsFirst}
 use Rattle.lo_machine.proofs.SessionPlaces.{holds_exchanged, placed_exchanged, own_open, placed_open}
@@ -52,7 +52,7 @@ pub record IsAfter (names names' : List (Option (List ℕ))) (flag flag' : Bool)
   pub leveled : (session : Session) → All IsLeveled session.cursors → All IsLeveled (after session).cursors
 
 -- the session's entry and the tables, before a move and after it, and whether its block is failed
-pub record Moves (s : ℕ) (flag' : Bool) (old new : Engine) : Type 0 where
+pub record Moves (s : ℕ) (flag' : Bool) (old new : Server) : Type 0 where
   pub own : LoSession
   pub own' : LoSession
   pub stood : slice_get old.sessions.items (s - 1) ≡ Some own
@@ -66,13 +66,13 @@ pub record Moves (s : ℕ) (flag' : Bool) (old new : Engine) : Type 0 where
   pub variables : new.variables ≡ old.variables
 
 -- First descriptors end, and then cursors.
-pub record Closes (old : Engine) (own own' : Descs) (tables' : Tables) (mid : Transactions) : Type 0 where
+pub record Closes (old : Server) (own own' : Descs) (tables' : Tables) (mid : Transactions) : Type 0 where
   pub between : Transactions
   pub descriptors : Ends (xacts_of old) between own own'
   pub cursors : cursors.Ends between mid (tables.cursors_in old.tables) (tables.cursors_in tables')
 
 -- Their end leaves of the transactions all but what is held.
-module _ (old : Engine) (sound : IsEngine old) (own own' : Descs) (tables' : Tables) (mid : Transactions) (closes : Closes old own own' tables' mid) where
+module _ (old : Server) (sound : IsServer old) (own own' : Descs) (tables' : Tables) (mid : Transactions) (closes : Closes old own own' tables' mid) where
   pub mid_others : HoldsOthers (xacts_of old) mid
   mid_others = holds_both (xacts_of old) closes.between mid closes.descriptors.others closes.cursors.others
 
@@ -103,7 +103,7 @@ module _ (old : Engine) (sound : IsEngine old) (own own' : Descs) (tables' : Tab
   pub mid_rows : (ys : List (Edit Deed)) → tables.StandFor (xacts_of old) old.tables ys → tables.StandFor mid old.tables ys
   mid_rows ys stands = for_held old.tables (xacts_of old) mid ys mid_others stands
 
-module _ (s : ℕ) (names : List (Option (List ℕ))) (flag' : Bool) (old new : Engine) (sound : IsEngine old) (moves : Moves s flag' old new) (mid : Transactions) (closes : Closes old moves.own.descs moves.own'.descs new.tables mid) (turns : Turned s names mid (xacts_of new)) where
+module _ (s : ℕ) (names : List (Option (List ℕ))) (flag' : Bool) (old new : Server) (sound : IsServer old) (moves : Moves s flag' old new) (mid : Transactions) (closes : Closes old moves.own.descs moves.own'.descs new.tables mid) (turns : Turned s names mid (xacts_of new)) where
   low : 1 ≤ s
   low = turns.levels.low
 
@@ -157,7 +157,7 @@ module _ (s : ℕ) (names : List (Option (List ℕ))) (flag' : Bool) (old new : 
     };
   }
 
-  pub moved_sound : GoWith (xacts_of new) old.store.pages → new.undos ≡ (xacts_of new).undos → IsEngine new
+  pub moved_sound : GoWith (xacts_of new) old.store.pages → new.undos ≡ (xacts_of new).undos → IsServer new
   moved_sound goes undos = record {
     goes = subst (λ (store : LoStore). GoWith (xacts_of new) store.pages) (sym moves.store) goes;
     whole = whole_same mid (xacts_of new) turns.held (mid_whole old sound moves.own.descs moves.own'.descs new.tables mid closes);
@@ -175,7 +175,7 @@ module _ (s : ℕ) (names : List (Option (List ℕ))) (flag' : Bool) (old new : 
     first = λ t. names_are t (cases_eq t s);
   }
 
-  -- what the engine has
+  -- what the server has
 
   apart : (t : ℕ) → 1 ≤ t → t ≢ s → s - 1 ≢ t - 1
   apart t least other same = other (omega (arith, low, least, same))

@@ -35,7 +35,7 @@ use Rattle.row_tables.proofs.Leaving as rows
 use Rattle.row_tables.proofs.Resting.{for_held}
 use Rattle.lo_calls.specs.declared.descs.Descs.{Descs}
 use Rattle.lo_calls.specs.Descriptors.{descriptors_of, holds_of, AreOpen, Ends}
-use Rattle.lo_machine.specs.Engine.{IsLeveled}
+use Rattle.lo_machine.specs.Server.{IsLeveled}
 use Rattle.lo_machine.specs.Later.{later, later_cursor, all_later, all_later_cursors}
 use Rattle.lo_machine.specs.Moves.{session_opened}
 use Rattle.lo_machine.specs.Well.{IsFirst}

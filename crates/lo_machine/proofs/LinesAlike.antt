@@ -30,8 +30,8 @@ use Rattle.row_tables.specs.World.{world}
 use Rattle.toast_plan.specs.Row.{value_lengths}
 use Rattle.xact_core.specs.Kept.{current}
 use Rattle.lo_base.specs.declared.reply.Reply.{Reply}
-use Rattle.lo_machine.specs.Engine.{xacts_of}
-use Rattle.lo_machine.specs.declared.engine.Engine.{Engine}
+use Rattle.lo_machine.specs.Server.{xacts_of}
+use Rattle.lo_machine.specs.declared.server.Server.{Server}
 use Rattle.lo_machine.specs.declared.variables.Variables.{Variables}
 use Rattle.lo_machine.specs.CallRows.{Shared}
 use Rattle.lo_machine.specs.Dispatch.{CanCall, Finds, ReadsCall, here_in}
@@ -44,13 +44,13 @@ use Rattle.lo_machine.specs.Variables.{IsAs}
 use Rattle.lo_machine.proofs.TableCalls.{Carries, IsMatch, carries_same, first_same, high_of, later_here, low_of, reads_later, stays_as, table_sound, with_tables}
 use Rattle.lo_machine.proofs.TablesAlike.{held_none, last_none, one_put}
 
--- The engine is as it was: a term refused the request, or there was no memory.
+-- The server is as it was: a term refused the request, or there was no memory.
 
-abbrev pub RefusedBy : (s : ℕ) → Engine → (Here → Row) → Refusal → Type 0
+abbrev pub RefusedBy : (s : ℕ) → Server → (Here → Row) → Refusal → Type 0
 RefusedBy s old row r = (ys : List (Edit Deed)) (shared : Shared) (sessions : ℕ → Session) (variables : ℕ → List Variable) → Finds s old ys shared sessions variables → pages.first_of (row (here_in s old ys shared sessions variables)).refusals ≡ Some r
 
-module _ (s : ℕ) (old : Engine) (can : CanCall s old) (row : Here → Row) where
-  abbrev same : Engine
+module _ (s : ℕ) (old : Server) (can : CanCall s old) (row : Here → Row) where
+  abbrev same : Server
   same = with_tables old old.core old.tables
 
   pub refused_by : (r : Refusal) → RefusedBy s old row r → ReadsCall s row old same (Err (By r))
@@ -118,12 +118,12 @@ first_judged (Some q ∷ judged) more r is = is
 
 -- the variables of a session, at their place
 
-pub record TakesOwn (s place : ℕ) (e : Engine) (own : Variables) : Type 0 where
+pub record TakesOwn (s place : ℕ) (e : Server) (own : Variables) : Type 0 where
   pub place' : place + 1 ≡ s
   pub within : place + 1 ≤ 16
   pub taken : own ≡ slice_index_or e.variables.items place own
 
-pub own_as : (s place : ℕ) (e : Engine) (own : Variables) → CanCall s e → TakesOwn s place e own → (ys : List (Edit Deed)) (shared : Shared) (sessions : ℕ → Session) (variables : ℕ → List Variable) → Finds s e ys shared sessions variables → IsAs own (variables s)
+pub own_as : (s place : ℕ) (e : Server) (own : Variables) → CanCall s e → TakesOwn s place e own → (ys : List (Edit Deed)) (shared : Shared) (sessions : ℕ → Session) (variables : ℕ → List Variable) → Finds s e ys shared sessions variables → IsAs own (variables s)
 own_as s place e own can takes ys shared sessions variables finds =
     let at : place ≡ s - 1 = omega (arith, takes.place') in
     let there : slice_get e.variables.items (s - 1) ≡ Some own = subst (λ (n : ℕ). slice_get e.variables.items n ≡ Some own) at (slice_get_read e.variables.items 16 place own (sym can.sound.sixteen_lists) (omega (arith, takes.within)) takes.taken) in
@@ -135,7 +135,7 @@ is_unknown : (o : Option Table) → None ≡ option_map columns_of o → is_none
 is_unknown None is = refl
 is_unknown (Some table) is = absurd (false≢true (ap is_some is))
 
-module _ (s : ℕ) (old : Engine) (t : List ℕ) (found : Option (List Column)) (is : found ≡ option_map columns_of (table_in t (tables_in old.tables))) (none : found ≡ None) where
+module _ (s : ℕ) (old : Server) (t : List ℕ) (found : Option (List Column)) (is : found ≡ option_map columns_of (table_in t (tables_in old.tables))) (none : found ≡ None) where
   pub unknown_table : (ys : List (Edit Deed)) (shared : Shared) (sessions : ℕ → Session) (variables : ℕ → List Variable) → Finds s old ys shared sessions variables → no_table (tables_here (here_in s old ys shared sessions variables)) t ≡ Some (refusal NoTable (pos 0))
   unknown_table ys shared sessions variables finds =
       let unknown : is_none (table_in t (tables_in old.tables)) ≡ true = is_unknown (table_in t (tables_in old.tables)) (sym none ∙ is) in
@@ -148,7 +148,7 @@ module _ (s : ℕ) (old : Engine) (t : List ℕ) (found : Option (List Column)) 
   pub update_unknown : (i : ℤ) (changes : List Assign) → RefusedBy s old (update_line t i changes) (refusal NoTable (pos 0))
   update_unknown i changes ys shared sessions variables finds = rw (unknown_table ys shared sessions variables finds) refl
 
-module _ (s place : ℕ) (old : Engine) (can : CanCall s old) (own : Variables) (takes : TakesOwn s place old own) (t : List ℕ) (found : Option (List Column)) (is : found ≡ option_map columns_of (table_in t (tables_in old.tables))) where
+module _ (s place : ℕ) (old : Server) (can : CanCall s old) (own : Variables) (takes : TakesOwn s place old own) (t : List ℕ) (found : Option (List Column)) (is : found ≡ option_map columns_of (table_in t (tables_in old.tables))) where
   known : (o : Option Table) (columns : List Column) → Some columns ≡ option_map columns_of o → columns_in o ≡ columns
   known None columns is = absurd (false≢true (sym (ap is_some is)))
   known (Some table) columns is = sym (same_Some columns table.columns is)

@@ -6,7 +6,7 @@ use Rattle.std.proofs.lemmas.List.Elements.{All-nil, All-cons, All-head, All-tai
 use Rattle.lo_model.specs.Database.{Table}
 use Rattle.row_tables.specs.declared.cursors.Cursor.{Cursor}
 use Rattle.row_tables.specs.Cursors.{cursor_by, is_own, own_cursors}
-use Rattle.lo_machine.specs.Engine.{IsNamed}
+use Rattle.lo_machine.specs.Server.{IsNamed}
 
 abbrev pub IsThere : List Table → Cursor → Type 0
 IsThere tables c = IsNamed tables (cursor_by c)

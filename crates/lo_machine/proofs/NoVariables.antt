@@ -3,7 +3,7 @@ use Rattle.std.proofs.Common.{◌≡◌, ℕ, ◌+◌, List, [], ◌∷◌, ◌+
 use Rattle.std.specs.Prelude.{slice_get}
 use Rattle.std.proofs.lemmas.Option.{none-some}
 use Rattle.xact_core.proofs.ListPlaces.{append_cases}
-use Rattle.lo_machine.specs.NewEngine.{AreNone}
+use Rattle.lo_machine.specs.NewServer.{AreNone}
 use Rattle.lo_machine.specs.Variables.{array_at}
 use Rattle.lo_machine.specs.declared.variables.Variables.{Variables}
 

@@ -220,7 +220,7 @@ pub record IsObjectsRow (row : Here → Row) : Type 0 where
   pub alike : (above here : Here) → AreAlike above here → IsSameRow row above here
   pub deeds : (here : Here) → AreOfObjects (row here).granted.deeds
 
--- what an engine reads answers as what a state has
+-- what a server reads answers as what a state has
 alike_by : (row : Here → Row) → ((n s l l' counter : ℕ) (ds : List Descriptor) (es : List (Edit Deed)) (views : SeesNone es n) (kept : All (λ (d : Descriptor). ReadsNone es d.reading) ds) → IsSameRow row (record { now = n + 1; session = s; level = l'; descriptors = all_later ds; edits = es; counter = counter }) (record { now = n; session = s; level = l; descriptors = ds; edits = es; counter = counter })) → (above here : Here) → AreAlike above here → IsSameRow row above here
 alike_by row same above here alike =
     subst (λ (h : Here). IsSameRow row h here) (sym (built above here alike)) (same here.now here.session here.level above.level here.counter here.descriptors here.edits alike.views alike.kept)

@@ -70,7 +70,7 @@ before_is_busy acts.Rollback h = refl
 before_is_busy acts.Report h = cc
 before_is_busy acts.Idle h = cc
 
-itself : (s : ℕ) → (s == s) ≡ true
+pub itself : (s : ℕ) → (s == s) ≡ true
 itself s = grind (arith, nat_tests)
 
 -- the session that advanced
@@ -149,7 +149,7 @@ second_true : (a b : Bool) → (a && b) ≡ true → b ≡ true
 second_true true b h = h
 second_true false b h = cc
 
-stays_shorter : (st : State) (s : ℕ) (request : Request) → stays_at_line st s request ≡ true → acts_before ((state_after st s request).players s).sweep + 1 ≤ acts_before (st.players s).sweep
+pub stays_shorter : (st : State) (s : ℕ) (request : Request) → stays_at_line st s request ≡ true → acts_before ((state_after st s request).players s).sweep + 1 ≤ acts_before (st.players s).sweep
 stays_shorter st s request stays =
     let finish : request ≡ Finish = finishes request (first_true (is_finish request) (is_before_report (act_of st s)) stays) in
     subst (λ (r : Request). acts_before ((state_after st s r).players s).sweep + 1 ≤ acts_before (st.players s).sweep) (sym finish)
@@ -177,7 +177,7 @@ runs_on programs m s request run line stays more = record {
       ∙ (more.over t ∙ ap (λ (b : Bool). one_more s (if b then m.lines_done else one_more s m.lines_done) t) stays);
 }
 
-same_line : (programs : List (List Request)) (m : Moment) (s : ℕ) (request : Request) → stays_at_line m.state s request ≡ true → next_line programs (moment_after m s (Some request)) s ≡ next_line programs m s
+pub same_line : (programs : List (List Request)) (m : Moment) (s : ℕ) (request : Request) → stays_at_line m.state s request ≡ true → next_line programs (moment_after m s (Some request)) s ≡ next_line programs m s
 same_line programs m s request stays = rw stays refl
 
 pub line_runs : (more : ℕ) (programs : List (List Request)) (m : Moment) (s : ℕ) (request : Request) → next_line programs m s ≡ Some request → acts_before (m.state.players s).sweep ≤ more → Runs programs m s (line_schedule more programs m s (Some request))

@@ -14,8 +14,8 @@ use Rattle.lo_calls.specs.declared.session.LoSession.{LoSession}
 use Rattle.lo_calls.specs.Descriptors.{AreOpen, HoldsRest, IsOwnHold}
 use Rattle.row_tables.specs.Cursors.{holds_of as cursor_holds}
 use Rattle.row_tables.specs.Standing.{cursors_in}
-use Rattle.lo_machine.specs.declared.engine.Engine.{Engine}
-use Rattle.lo_machine.specs.Engine.{xacts_of, holds_at, all_holds, IsPlaced, IsEngine}
+use Rattle.lo_machine.specs.declared.server.Server.{Server}
+use Rattle.lo_machine.specs.Server.{xacts_of, holds_at, all_holds, IsPlaced, IsServer}
 
 -- the piece of one element, before those of all others
 
@@ -56,7 +56,7 @@ placed_exchanged sessions i own' within placed each place session is = elim (cas
 ]
 
 -- A session's descriptors are open, with views of their own, as contracts of calls say it.
-pub own_open : (s : ℕ) (e : Engine) (own : LoSession) → 1 ≤ s → IsEngine e → slice_get e.sessions.items (s - 1) ≡ Some own → AreOpen (xacts_of e) s own.descs
+pub own_open : (s : ℕ) (e : Server) (own : LoSession) → 1 ≤ s → IsServer e → slice_get e.sessions.items (s - 1) ≡ Some own → AreOpen (xacts_of e) s own.descs
 own_open s e own low sound stood =
     let here = sound.placed (s - 1) own stood in
     let number : s - 1 + 1 ≡ s = omega arith in

@@ -14,10 +14,10 @@ use Rattle.lo_pages.proofs.Standing.{go_ticked, stand_ticked}
 use Rattle.row_tables.proofs.Laws.{with_ticked}
 use Rattle.row_tables.proofs.Resting.{for_ticked}
 use Rattle.xact_core.specs.Transactions.{Transactions, levels_of}
-use Rattle.lo_machine.specs.declared.engine.Engine.{Engine}
-use Rattle.lo_machine.specs.Engine.{xacts_of, HasRows, IsEngine, HasSession, with_variables_at, StandsFor, Serves, Leaves, Does}
+use Rattle.lo_machine.specs.declared.server.Server.{Server}
+use Rattle.lo_machine.specs.Server.{xacts_of, HasRows, IsServer, HasSession, with_variables_at, StandsFor, Serves, Leaves, Does}
 use Rattle.lo_machine.specs.Fitting.{HasKeptRanges, IsFit}
-use Rattle.lo_machine.specs.Served.{IsRanged, IsServed, is_served}
+use Rattle.lo_machine.specs.Served.{IsRanged, IsPlain, is_plain}
 use Rattle.lo_machine.specs.State.{State, Outcome, session_of, variables_of, refused, with_player, state_with}
 use Rattle.lo_machine.specs.Step.{refusals, may_go_on, failed, refusal_of, granted_or_refused, tried, outcome}
 use Rattle.lo_machine.specs.Terms.{refusal}
@@ -34,7 +34,7 @@ recovers st s Rollback is = refl
 recovers st s (RollbackTo name) is = refl
 recovers st s r is = absurd (false≢true is)
 
-stops : (st : State) (s : ℕ) (r : Request) → is_served r ≡ true → may_recover r ≡ false → may_go_on st s r ≡ false
+stops : (st : State) (s : ℕ) (r : Request) → is_plain r ≡ true → may_recover r ≡ false → may_go_on st s r ≡ false
 stops st s Commit served is = absurd (true≢false is)
 stops st s Rollback served is = absurd (true≢false is)
 stops st s (RollbackTo name) served is = absurd (true≢false is)
@@ -54,12 +54,12 @@ goes_on st s r may = by (session_of st s).transaction.failed refl
     by true is = ap (λ (b : Bool). when b Failed (pos 0)) (ap (λ (b : Bool). (session_of st s).transaction.failed && not b) (recovers st s r (may is)) ∙ both_false (session_of st s).transaction.failed)
     by false is = rw is refl
 
-is_tried : (st : State) (s : ℕ) (r : Request) → is_served r ≡ true → failed st s r ≡ None → tried st s r ≡ outcome st s r
+is_tried : (st : State) (s : ℕ) (r : Request) → is_plain r ≡ true → failed st s r ≡ None → tried st s r ≡ outcome st s r
 is_tried st s r served none =
     ap (λ (term : Option Refusal). granted_or_refused st s r (first_of (term ∷ refusals st s r))) (sym none)
     ∙ sym (untold st s r (is_some (refusal_of st s r)) (granted_or_refused st s r (refusal_of st s r)) served)
 
-is_refused : (st : State) (s : ℕ) (r : Request) → is_served r ≡ true → (session_of st s).transaction.failed ≡ true → may_recover r ≡ false → refused st s (refusal Failed (pos 0)) ≡ outcome st s r
+is_refused : (st : State) (s : ℕ) (r : Request) → is_plain r ≡ true → (session_of st s).transaction.failed ≡ true → may_recover r ≡ false → refused st s (refusal Failed (pos 0)) ≡ outcome st s r
 is_refused st s r served fails may_not =
     ap (λ (term : Option Refusal). granted_or_refused st s r (first_of (term ∷ refusals st s r))) (sym holds)
     ∙ sym (untold st s r (is_some (refusal_of st s r)) (granted_or_refused st s r (refusal_of st s r)) served)
@@ -67,7 +67,7 @@ is_refused st s r served fails may_not =
     holds : failed st s r ≡ when true Failed (pos 0)
     holds = rw (fails, stops st s r served may_not) refl
 
-module _ (s : ℕ) (low : 1 ≤ s) (high : s ≤ 16) (old new : Engine) (r : Request) (served : is_served r ≡ true) (fails : Bool) (failure : fails ≡ slice_index_or old.failed.items (s - 1) false) (answer : Reply) where
+module _ (s : ℕ) (low : 1 ≤ s) (high : s ≤ 16) (old new : Server) (r : Request) (served : is_plain r ≡ true) (fails : Bool) (failure : fails ≡ slice_index_or old.failed.items (s - 1) false) (answer : Reply) where
   pub tried_does : (fails ≡ true → may_recover r ≡ true) → Does old new s (λ st. tried st s r) answer → Does old new s (λ st. outcome st s r) answer
   tried_does may does = does_as old new s (λ st. tried st s r) (λ st. outcome st s r) answer (λ st stands. is_tried st s r served (goes_on st s r (λ is. may (sym (failure_is s low high old fails failure st stands) ∙ is)))) does
 
@@ -83,11 +83,11 @@ pub levels_later : (x : Transactions) (s : ℕ) → levels_of (later_at x) s ≡
 levels_later x zero = refl
 levels_later x (suc i) = refl
 
-abbrev pub with_xacts : Engine → Transactions → Engine
+abbrev pub with_xacts : Server → Transactions → Server
 with_xacts e x = record e { core = record { xacts = x } }
 
-pub ticked_sound : (e : Engine) (x : Transactions) → x ≡ later_at (xacts_of e) → IsEngine e → IsEngine (with_xacts e x)
-ticked_sound e x is sound = subst (λ (y : Transactions). IsEngine (with_xacts e y)) (sym is) record {
+pub ticked_sound : (e : Server) (x : Transactions) → x ≡ later_at (xacts_of e) → IsServer e → IsServer (with_xacts e x)
+ticked_sound e x is sound = subst (λ (y : Transactions). IsServer (with_xacts e y)) (sym is) record {
   goes = go_ticked (xacts_of e) (later_at (xacts_of e)) e.store.pages (record { is = refl }) sound.goes;
   whole = record { whole = sound.whole.whole };
   counter = sound.counter;
@@ -104,7 +104,7 @@ ticked_sound e x is sound = subst (λ (y : Transactions). IsEngine (with_xacts e
   first = λ s. subst IsFirst (sym (levels_later (xacts_of e) s)) (sound.first s);
 }
 
-ticked_session : (e : Engine) (s : ℕ) (session : Session) → HasSession e s session → HasSession (with_xacts e (later_at (xacts_of e))) s session
+ticked_session : (e : Server) (s : ℕ) (session : Session) → HasSession e s session → HasSession (with_xacts e (later_at (xacts_of e))) s session
 ticked_session e s session has = record { levels = levels_later (xacts_of e) s ∙ has.levels; failed = has.failed; descriptors = has.descriptors; cursors = has.cursors; leveled = has.leveled }
 
 -- a session's variables in the state that an outcome leaves
@@ -115,10 +115,10 @@ variables_as st s done t = by (t == s)
     by true = refl
     by false = refl
 
-pub ticked_rows : (e : Engine) (x : Transactions) → x ≡ later_at (xacts_of e) → HasRows e → HasRows (with_xacts e x)
+pub ticked_rows : (e : Server) (x : Transactions) → x ≡ later_at (xacts_of e) → HasRows e → HasRows (with_xacts e x)
 ticked_rows e x is goes = with_ticked e.tables (xacts_of e) x (record { is = is }) goes
 
-ticked_stands : (e : Engine) (st : State) (s : ℕ) (done : Outcome) → Leaves e st s done → IsWell (state_with st s done) → IsFit (state_with st s done) → StandsFor (with_xacts e (later_at (xacts_of e))) (state_with st s done)
+pub ticked_stands : (e : Server) (st : State) (s : ℕ) (done : Outcome) → Leaves e st s done → IsWell (state_with st s done) → IsFit (state_with st s done) → StandsFor (with_xacts e (later_at (xacts_of e))) (state_with st s done)
 ticked_stands e st s done leaves well fit = record {
   time = ap (λ (n : ℕ). n + 1) leaves.time;
   has = record {
@@ -131,12 +131,4 @@ ticked_stands e st s done leaves well fit = record {
   variables = record { each = λ t own low high is. subst (IsAs own) (variables_as st s done t) (leaves.variables.each t own low high is) };
   well = well;
   fit = fit;
-}
-
-pub served : (old new : Engine) (x : Transactions) (s : ℕ) (r : Request) (reply : Reply) → IsServed r → IsRanged r → HasKeptRanges r → x ≡ later_at (xacts_of new) → Does old new s (λ st. outcome st s r) reply → Serves old (with_xacts new x) s r (Ok reply)
-served old new x s r reply serves ranged kept is does = subst (λ (y : Transactions). Serves old (with_xacts new y) s r (Ok reply)) (sym is) record {
-  ok = λ st stands. (does.reply st stands, ticked_stands new st s (outcome st s r) (does.leaves st stands) (well_after st s r serves.0 serves.1 ranged stands.well) (fit_after st s r serves.0 serves.1 kept stands.well stands.fit));
-  time = ap (λ (n : ℕ). n + 1) does.time;
-  err = tt;
-  stays = tt;
 }

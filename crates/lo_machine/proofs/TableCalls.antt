@@ -1,4 +1,4 @@
--- A request on tables is the call of the engine's tables: what the call keeps of the engine, and what it makes of what the engine
+-- A request on tables is the call of the server's tables: what the call keeps of the server, and what it makes of what the server
 -- has, in the words of its row. Large objects, descriptors and array variables are as they were.
 use Rattle.std.proofs.Common.{◌≡◌, ◌≢◌, ◌≤◌, ◌<◌, ℕ, zero, suc, ◌+◌, Bool, true, false, not, List, [], ◌∷◌, ◌++◌, length, Option, Some, None, refl, ap, sym, subst, ◌∙◌, arith, inl, inr, append-nil}
 use Rattle.std.specs.Prelude.{nat_le, All, IsPermutation, ◌==◌, ◌&&◌, Ok, Err}
@@ -35,10 +35,10 @@ use Rattle.row_tables.specs.World.{World, world, here_of}
 use Rattle.xact_core.specs.Kept.{HoldsOthers, HoldsWholeViews, current, kept_views}
 use Rattle.xact_core.specs.Transactions.{Transactions, levels_of}
 use Rattle.row_versions.specs.declared.Core.{Core}
-use Rattle.lo_machine.specs.declared.engine.Engine.{Engine}
+use Rattle.lo_machine.specs.declared.server.Server.{Server}
 use Rattle.lo_machine.specs.CallRows.{Shared, session_by}
 use Rattle.lo_machine.specs.Dispatch.{AnswersCall, CanCall, Denies, Finds, IsGranted, ReadsCall, Stays, here_in}
-use Rattle.lo_machine.specs.Engine.{xacts_of, clock_of, names_in, all_holds, HasSession, HasSessions, HasVariables, IsEngine, IsLeveled, with_variables_at}
+use Rattle.lo_machine.specs.Server.{xacts_of, clock_of, names_in, all_holds, HasSession, HasSessions, HasVariables, IsServer, IsLeveled, with_variables_at}
 use Rattle.lo_machine.specs.Later.{all_later, all_later_cursors, with_session_at}
 use Rattle.lo_machine.specs.Row.{Here, Row, tables_here}
 use Rattle.lo_machine.specs.State.{Variable}
@@ -55,7 +55,7 @@ first_same (None ∷ terms) = first_same terms
 first_same (Some r ∷ terms) = refl
 
 -- what a call of the tables needs of its world
-pub is_ready : (s : ℕ) (e : Engine) → CanCall s e → calls.IsReady (world (xacts_of e) e.tables s)
+pub is_ready : (s : ℕ) (e : Server) → CanCall s e → calls.IsReady (world (xacts_of e) e.tables s)
 is_ready s e can = record {
   whole = can.sound.whole;
   goes = can.rows;
@@ -85,7 +85,7 @@ later_here here = record {
 
 -- the lowest other session with a transaction
 
-other_same : (s : ℕ) (e : Engine) (sessions : ℕ → Session) → HasSessions e sessions → calls.other_open (xacts_of e) s ≡ lowest_open s sessions
+other_same : (s : ℕ) (e : Server) (sessions : ℕ → Session) → HasSessions e sessions → calls.other_open (xacts_of e) s ≡ lowest_open s sessions
 other_same s e sessions has = from 1 16 (omega arith) (omega arith)
   where
     from : (n count : ℕ) → 1 ≤ n → n + count ≤ 17 → find (λ t. not (t == s) && has_levels (levels_of (xacts_of e) t)) (range_with_len n count) ≡ find (λ t. not (t == s) && is_open (sessions t).transaction) (range_with_len n count)
@@ -94,7 +94,7 @@ other_same s e sessions has = from 1 16 (omega arith) (omega arith)
         let here : has_levels (levels_of (xacts_of e) n) ≡ is_open (sessions n).transaction = ap has_levels (has n low (omega (arith, high))).levels in
         rw (here, from (n + 1) count (omega arith) (omega (arith, high))) refl
 
-pub reads_later : (s : ℕ) (e : Engine) (ys : List (Edit Deed)) (shared : Shared) (sessions : ℕ → Session) (variables : ℕ → List Variable) → 1 ≤ s → s ≤ 16 → Finds s e ys shared sessions variables → here_of (world (xacts_of e) e.tables s) ys ≡ later_here (here_in s e ys shared sessions variables)
+pub reads_later : (s : ℕ) (e : Server) (ys : List (Edit Deed)) (shared : Shared) (sessions : ℕ → Session) (variables : ℕ → List Variable) → 1 ≤ s → s ≤ 16 → Finds s e ys shared sessions variables → here_of (world (xacts_of e) e.tables s) ys ≡ later_here (here_in s e ys shared sessions variables)
 reads_later s e ys shared sessions variables low high finds =
     let cursors = (finds.has.sessions s low high).cursors in
     let other = other_same s e sessions finds.has.sessions in
@@ -114,17 +114,17 @@ pub record IsMatch (here : Here) (row : Row) (given : tables.Row) : Type 0 where
   pub counter : row.granted.counter ≡ here.counter
   pub pages : (x : Transactions) (store : Pages) → IsMaker x here.session → first_of given.refusals ≡ None → StandFor x store here.edits → StandFor x store (here.edits ++ edits_by x.clock (Running here.session (length (levels_of x here.session))) given.granted.deeds)
 
--- rows that match, whatever the engine had
-abbrev pub Matches : (s : ℕ) → Engine → (Here → Row) → (tables.Here → tables.Row) → Type 0
+-- rows that match, whatever the server had
+abbrev pub Matches : (s : ℕ) → Server → (Here → Row) → (tables.Here → tables.Row) → Type 0
 Matches s old row given = (ys : List (Edit Deed)) (shared : Shared) (sessions : ℕ → Session) (variables : ℕ → List Variable) → Finds s old ys shared sessions variables → IsMatch (here_in s old ys shared sessions variables) (row (here_in s old ys shared sessions variables)) (given (later_here (here_in s old ys shared sessions variables)))
 
 -- the session of a call is one of the sixteen
 
-pub low_of : (s : ℕ) (e : Engine) → CanCall s e → 1 ≤ s
+pub low_of : (s : ℕ) (e : Server) → CanCall s e → 1 ≤ s
 low_of zero e can = absurd (omega (arith, can.begun))
 low_of (suc i) e can = omega arith
 
-pub high_of : (s : ℕ) (e : Engine) → CanCall s e → s ≤ 16
+pub high_of : (s : ℕ) (e : Server) → CanCall s e → s ≤ 16
 high_of zero e can = omega arith
 high_of (suc i) e can = by_test (nat_le 16 i) refl
   where
@@ -137,8 +137,8 @@ high_of (suc i) e can = by_test (nat_le 16 i) refl
         let begun : 0 < length {A = Option (List ℕ)} [] = subst (λ (names : List (Option (List ℕ))). 0 < length names) none can.begun in
         absurd (omega (arith, begun))
 
--- the engine with other transactions and tables
-abbrev pub with_tables : Engine → Core → Tables → Engine
+-- the server with other transactions and tables
+abbrev pub with_tables : Server → Core → Tables → Server
 with_tables e core ts = record {
   alloc = e.alloc;
   core = core;
@@ -162,11 +162,11 @@ pub record Carries (old new : World) : Type 0 where
 pub carries : (old new : World) → calls.Keeps old new → Carries old new
 carries old new keeps = record { others = keeps.others; whole = keeps.ready.whole; holds = keeps.holds; own = keeps.ready.cursors.own; named = keeps.ready.named; others_cursors = keeps.cursors }
 
-module _ (s : ℕ) (low : 1 ≤ s) (high : s ≤ 16) (old : Engine) (can : CanCall s old) (core : Core) (ts : Tables) where
+module _ (s : ℕ) (low : 1 ≤ s) (high : s ≤ 16) (old : Server) (can : CanCall s old) (core : Core) (ts : Tables) where
   abbrev x' : Transactions
   x' = core.xacts
 
-  abbrev new : Engine
+  abbrev new : Server
   new = with_tables old core ts
 
   abbrev before : World
@@ -175,7 +175,7 @@ module _ (s : ℕ) (low : 1 ≤ s) (high : s ≤ 16) (old : Engine) (can : CanCa
   abbrev after : World
   after = world x' ts s
 
-  -- the engine keeps what it keeps
+  -- the server keeps what it keeps
 
   module _ (keeps : Carries before after) where
     names : (t : ℕ) → names_in new t ≡ names_in old t
@@ -186,7 +186,7 @@ module _ (s : ℕ) (low : 1 ≤ s) (high : s ≤ 16) (old : Engine) (can : CanCa
         let first = IsPermutation-trans (xacts_of old).held (all_holds old.sessions.items ++ cursor_holds (cursors_in old.tables)) (cursor_holds (cursors_in old.tables) ++ all_holds old.sessions.items) can.sound.held (IsPermutation-append_comm (all_holds old.sessions.items) (cursor_holds (cursors_in old.tables))) in
         IsPermutation-trans x'.held (cursor_holds (cursors_in ts) ++ all_holds old.sessions.items) (all_holds old.sessions.items ++ cursor_holds (cursors_in ts)) (keeps.holds.rest (all_holds old.sessions.items) first) (IsPermutation-append_comm (cursor_holds (cursors_in ts)) (all_holds old.sessions.items))
 
-    pub table_sound : IsEngine new
+    pub table_sound : IsServer new
     table_sound = record {
       goes = go_held (xacts_of old) x' old.store.pages keeps.others can.sound.goes;
       whole = keeps.whole;
@@ -385,7 +385,7 @@ module _ (s : ℕ) (low : 1 ≤ s) (high : s ≤ 16) (old : Engine) (can : CanCa
 
 -- the answers of a call
 
-module _ (s : ℕ) (old : Engine) (can : CanCall s old) (core : Core) (ts : Tables) (row : Here → Row) (given : tables.Here → tables.Row) (matches : Matches s old row given) where
+module _ (s : ℕ) (old : Server) (can : CanCall s old) (core : Core) (ts : Tables) (row : Here → Row) (given : tables.Here → tables.Row) (matches : Matches s old row given) where
   pub call_ok : (reply : Reply) → calls.Grants given (world (xacts_of old) old.tables s) (world core.xacts ts s) reply → calls.Keeps (world (xacts_of old) old.tables s) (world core.xacts ts s) → AnswersCall s row old (with_tables old core ts) (Ok reply)
   call_ok = table_ok s (low_of s old can) (high_of s old can) old can core ts row given matches
 
@@ -403,7 +403,7 @@ module _ (s : ℕ) (old : Engine) (can : CanCall s old) (core : Core) (ts : Tabl
     stays = stays_as s (low_of s old can) (high_of s old can) old can core ts (ap (λ (w : World). w.xacts) refuses.same) (ap (λ (w : World). w.tables) refuses.same);
   }
 
--- a call that leaves the engine
+-- a call that leaves the server
 
 abbrev pub Reading : tables.Here → tables.Row → Type 0
 Reading here row = (row.granted.deeds ≡ []) × (row.granted.tables ≡ here.tables) × (row.granted.cursors ≡ here.cursors)
@@ -414,7 +414,7 @@ pub record IsReading (given : tables.Here → tables.Row) : Type 0 where
 pub keeps_same : (w : World) → calls.IsReady w → calls.Keeps w w
 keeps_same w ready = record { ready = ready; session = refl; cursors = λ t other. refl; others = same_holds w.xacts; holds = record { rest = λ others all. all }; views = omega arith }
 
-module _ (s : ℕ) (old : Engine) (can : CanCall s old) (row : Here → Row) (given : tables.Here → tables.Row) (matches : Matches s old row given) where
+module _ (s : ℕ) (old : Server) (can : CanCall s old) (row : Here → Row) (given : tables.Here → tables.Row) (matches : Matches s old row given) where
   abbrev here_now : World
   here_now = world (xacts_of old) old.tables s
 

@@ -6,10 +6,10 @@ use Rattle.std.proofs.lemmas.List.Elements.{All-nil, All-cons, All-append, All-f
 use Rattle.lo_base.specs.declared.refusal.Cause.TheVariants.{NoBlock, NoSavepoint}
 use Rattle.lo_base.specs.declared.refusal.Refusal.{Refusal}
 use Rattle.lo_base.specs.declared.reply.Reply.{Reply}
-use Rattle.lo_base.specs.declared.reply.Reply.TheVariants.{Word, Refused}
+use Rattle.lo_base.specs.declared.reply.Reply.TheVariants.{Word, Refused, Counted}
 use Rattle.lo_base.specs.declared.reply.Word.TheVariants as words
 use Rattle.lo_base.specs.declared.request.Request.{Request}
-use Rattle.lo_base.specs.declared.request.Request.TheVariants.{Begin, Commit, Rollback, Savepoint, Release, RollbackTo, LoCreat, LoCreate, LoOpen, LoClose, LoRead, LoWrite, LoLseek, LoLseek64, LoTell, LoTell64, LoTruncate, LoTruncate64, LoUnlink, LoGet, LoPut, LoFromBytea, CreateTable, Insert, Update, Delete, Get, Ids, Slice, Declare, Fetch, Close, Rewrite, Vacuum, Step, Finish, Array, Load, Set, Elem, Show}
+use Rattle.lo_base.specs.declared.request.Request.TheVariants.{Begin, Commit, Rollback, Savepoint, Release, RollbackTo, LoCreat, LoCreate, LoOpen, LoClose, LoRead, LoWrite, LoLseek, LoLseek64, LoTell, LoTell64, LoTruncate, LoTruncate64, LoUnlink, LoGet, LoPut, LoFromBytea, CreateTable, Insert, Update, Delete, Get, Ids, Slice, Declare, Fetch, Close, Rewrite, Vacuum, Step, Finish, Array, Load, Set, Elem, Show, Vacuumlo}
 use Rattle.lo_calls.specs.DescriptorRows.{may_write, opened_by, open_row, close_row, read_row, write_row, seek_row, tell_row, truncate_row}
 use Rattle.lo_calls.specs.ObjectRows.{create_row, unlink_row, get_row, put_row}
 use Rattle.lo_calls.specs.Row as objects
@@ -29,21 +29,29 @@ use Rattle.lo_machine.specs.ArrayRows.{array_line, elem_line, load_line, set_lin
 use Rattle.lo_machine.specs.CallRows.{here, kept_open, called, call_granted, session_by}
 use Rattle.lo_machine.specs.Later.{with_session_at}
 use Rattle.lo_machine.specs.Row.{Granted, objects_here, on_objects, on_tables, tables_here}
-use Rattle.lo_machine.specs.Served.{IsRanged, is_served}
+use Rattle.lo_machine.specs.Served.{IsRanged, is_plain}
 use Rattle.lo_machine.specs.Spelled.{IsSpelled}
-use Rattle.lo_machine.specs.State.{State, Outcome, now, edits, session_of, with_player, state_with, answered, left_with, refused_in, refused, owner_in, and_made}
-use Rattle.lo_machine.specs.Step.{refusals, granted, failed, refusal_of, granted_or_refused, told_sweep, state_after}
+use Rattle.lo_machine.specs.State.{State, Outcome, now, edits, session_of, with_player, state_with, answered, left_with, refused_in, refused, owner_in, and_made, view_of}
+use Rattle.lo_machine.specs.Step.{refusals, granted, failed, refusal_of, granted_or_refused, told_sweep, state_after, outcome}
 use Rattle.lo_machine.specs.TableRows.{declare_line, get_line, insert_line, update_line}
 use Rattle.lo_machine.specs.TableRows as rows
 use Rattle.lo_machine.specs.Terms.{no_block}
 use Rattle.lo_machine.specs.TransactionRows.{level_named, no_savepoint, level_or_0, begun, rolled_back, committed_in, released_to, undone_to}
 use Rattle.lo_machine.specs.Well.{IsOwner, IsPast, IsQuietAt, IsQuiet, IsDescriptor, IsCursor, IsSession, AreHeld, AreWell, IsWell}
+use Rattle.lo_machine.specs.FlatRows.{AreFlatRows}
+use Rattle.lo_machine.specs.Well.{AreNamed}
 use Rattle.lo_machine.proofs.FlatStates.{IsKept, outcome_kept}
 use Rattle.lo_machine.proofs.NewestLevel.{newest_bounds}
 use Rattle.lo_machine.proofs.Unmet.{first_none, unmet}
 use Rattle.lo_machine.proofs.WellEdits.{StayQuiet, own_session, each_session, past_kept, past_released, past_committed, past_undone, past_made, quiet_same, quiet_released, quiet_committed, quiet_undone, quiet_made, quiet_now, all_described_later, all_cursors_later, session_later}
 use Rattle.lo_machine.proofs.WellRows.{close_leaves, unlink_leaves, tell_leaves, truncate_leaves, open_leaves, read_leaves, write_leaves, seek_leaves}
 use Rattle.lo_machine.proofs.WellSessions.{open_top, none_open, idle_well, begun_well, saved_well, released_well, undone_well}
+use Rattle.orphan_sweep.specs.declared.act.SweepAct.{SweepAct}
+use Rattle.orphan_sweep.specs.declared.act.SweepAct.TheVariants as acts
+use Rattle.lo_machine.specs.SweepRows.{act_granted, act_of, scan_reply, report_in}
+use Rattle.lo_model.specs.Listing.{oids_in}
+use Rattle.lo_machine.proofs.ToldSweeps.{IsSame, request_same}
+use Rattle.lo_model.specs.Database.{Database}
 
 -- what an outcome leaves is well, before the clock moves on
 abbrev pub IsGood : State → (session : ℕ) → Outcome → Type 0
@@ -268,63 +276,86 @@ module _ (st : State) (s : ℕ) (well : IsWell st) where
       by None is = absurd (true≢false (ap is_none (sym is) ∙ there))
       by (Some k) is = let bounds = newest_bounds name names k own.first is in each k bounds.0 bounds.1
 
-  all_good : (r : Request) → is_served r ≡ true → first_of (refusals st s r) ≡ None → IsGood st s (granted st s r)
-  all_good Begin served none = begun_good (is_open mine.transaction) refl
-  all_good Commit served none = committed_in_good (is_open mine.transaction) mine.transaction.failed
-  all_good Rollback served none = rolled_back_good (is_open mine.transaction)
-  all_good (Savepoint name) served none = saved_good (Word words.Savepoint) name (inside [] none)
-  all_good (Release name) served none = named (λ found. IsGood st s (released_to st s (level_or_0 found))) name none (λ k low high. released_good (Word words.Release) k low high)
-  all_good (RollbackTo name) served none = named (λ found. IsGood st s (undone_to st s (level_or_0 found))) name none (λ k low high. undone_good (Word words.Rollback) k false (omega (arith, low)) high)
-  all_good (LoCreat mode) served none = on_objects_good (create_row 0 []) (λ all. all)
-  all_good (LoCreate o) served none = on_objects_good (create_row o []) (λ all. all)
-  all_good (LoOpen o mode) served none = on_objects_good (open_row o mode) (λ all. open_leaves (described []) objects_now all o mode (opens o mode))
-  all_good (LoClose fd) served none = on_objects_good (close_row fd) (λ all. close_leaves (described []) objects_now all fd)
-  all_good (LoRead fd count) served none = on_objects_good (read_row fd count) (λ all. read_leaves (described (read_row fd count objects_now).granted.deeds) objects_now all (moves (read_row fd count objects_now).granted.deeds) fd count)
-  all_good (LoWrite fd bytes) served none = on_objects_good (write_row fd bytes) (λ all. write_leaves (described (write_row fd bytes objects_now).granted.deeds) objects_now all (moves (write_row fd bytes objects_now).granted.deeds) fd bytes)
-  all_good (LoLseek fd offset whence) served none = on_objects_good (seek_row false fd offset whence) (λ all. seek_leaves (described (seek_row false fd offset whence objects_now).granted.deeds) objects_now all (moves (seek_row false fd offset whence objects_now).granted.deeds) false fd offset whence)
-  all_good (LoLseek64 fd offset whence) served none = on_objects_good (seek_row true fd offset whence) (λ all. seek_leaves (described (seek_row true fd offset whence objects_now).granted.deeds) objects_now all (moves (seek_row true fd offset whence objects_now).granted.deeds) true fd offset whence)
-  all_good (LoTell fd) served none = on_objects_good (tell_row false fd) (λ all. tell_leaves (described (tell_row false fd objects_now).granted.deeds) objects_now all false fd)
-  all_good (LoTell64 fd) served none = on_objects_good (tell_row true fd) (λ all. tell_leaves (described (tell_row true fd objects_now).granted.deeds) objects_now all true fd)
-  all_good (LoTruncate fd size) served none = on_objects_good (truncate_row fd size) (λ all. truncate_leaves (described (truncate_row fd size objects_now).granted.deeds) objects_now all fd size)
-  all_good (LoTruncate64 fd size) served none = on_objects_good (truncate_row fd size) (λ all. truncate_leaves (described (truncate_row fd size objects_now).granted.deeds) objects_now all fd size)
-  all_good (LoUnlink o) served none = on_objects_good (unlink_row o) (λ all. unlink_leaves (described (unlink_row o objects_now).granted.deeds) objects_now all o)
-  all_good (LoGet o from count) served none = on_objects_good (get_row o from count) (λ all. all)
-  all_good (LoPut o at bytes) served none = on_objects_good (put_row o at bytes) (λ all. all)
-  all_good (LoFromBytea o bytes) served none = on_objects_good (create_row o bytes) (λ all. all)
-  all_good (CreateTable name columns) served none = on_rows_good (create_table_row name columns) refl
-  all_good (Insert t values) served none = called_good (insert_line t values (here st s)).granted (λ all. all) (λ all. all)
-  all_good (Update t i changes) served none = called_good (update_line t i changes (here st s)).granted (λ all. all) (λ all. all)
-  all_good (Delete t i) served none = on_rows_good (delete_row t i) refl
-  all_good (Get t i) served none = called_good (get_line t i (here st s)).granted (λ all. all) (λ all. all)
-  all_good (Ids t) served none = on_rows_good (ids_row t) refl
-  all_good (Slice t i column from count) served none = on_rows_good (slice_row t i column from count) refl
-  all_good (Declare name t i) served none = declare_good name t i
-  all_good (Fetch name column from count) served none = on_rows_good (cursors.fetch_row name column from count) refl
-  all_good (Close name) served none = close_good name
-  all_good (Rewrite t storages) served none = on_rows_good (rewrite_row t storages) refl
-  all_good (Array name text) served none = called_good (array_line name text (here st s)).granted (λ all. all) (λ all. all)
-  all_good (Load name t i column) served none = called_good (load_line name t i column (here st s)).granted (λ all. all) (λ all. all)
-  all_good (Set name sub value) served none = called_good (set_line name sub value (here st s)).granted (λ all. all) (λ all. all)
-  all_good (Elem name sub) served none = called_good (elem_line name sub (here st s)).granted (λ all. all) (λ all. all)
-  all_good (Show name) served none = called_good (show_line name (here st s)).granted (λ all. all) (λ all. all)
-  all_good Vacuum served none = answered_good (Word words.Vacuum)
-  all_good r served none = absurd (false≢true served)
+  -- an act of a clean-up
+  act_good : (act : SweepAct) → IsGood st s (act_granted st s act)
+  act_good (acts.Scan table column) = answered_good (scan_reply st s table column)
+  act_good acts.Begin = begun_good (is_open mine.transaction) refl
+  act_good (acts.Unlink o) = on_objects_good (unlink_row o) (λ all. unlink_leaves (described (unlink_row o objects_now).granted.deeds) objects_now all o)
+  act_good acts.Commit = committed_in_good (is_open mine.transaction) mine.transaction.failed
+  act_good acts.Rollback = rolled_back_good (is_open mine.transaction)
+  act_good acts.Report = answered_good (report_in (st.players s).sweep)
+  act_good acts.Idle = answered_good (Word words.Idle)
+
+  all_good : (r : Request) → first_of (refusals st s r) ≡ None → IsGood st s (granted st s r)
+  all_good Begin none = begun_good (is_open mine.transaction) refl
+  all_good Commit none = committed_in_good (is_open mine.transaction) mine.transaction.failed
+  all_good Rollback none = rolled_back_good (is_open mine.transaction)
+  all_good (Savepoint name) none = saved_good (Word words.Savepoint) name (inside [] none)
+  all_good (Release name) none = named (λ found. IsGood st s (released_to st s (level_or_0 found))) name none (λ k low high. released_good (Word words.Release) k low high)
+  all_good (RollbackTo name) none = named (λ found. IsGood st s (undone_to st s (level_or_0 found))) name none (λ k low high. undone_good (Word words.Rollback) k false (omega (arith, low)) high)
+  all_good (LoCreat mode) none = on_objects_good (create_row 0 []) (λ all. all)
+  all_good (LoCreate o) none = on_objects_good (create_row o []) (λ all. all)
+  all_good (LoOpen o mode) none = on_objects_good (open_row o mode) (λ all. open_leaves (described []) objects_now all o mode (opens o mode))
+  all_good (LoClose fd) none = on_objects_good (close_row fd) (λ all. close_leaves (described []) objects_now all fd)
+  all_good (LoRead fd count) none = on_objects_good (read_row fd count) (λ all. read_leaves (described (read_row fd count objects_now).granted.deeds) objects_now all (moves (read_row fd count objects_now).granted.deeds) fd count)
+  all_good (LoWrite fd bytes) none = on_objects_good (write_row fd bytes) (λ all. write_leaves (described (write_row fd bytes objects_now).granted.deeds) objects_now all (moves (write_row fd bytes objects_now).granted.deeds) fd bytes)
+  all_good (LoLseek fd offset whence) none = on_objects_good (seek_row false fd offset whence) (λ all. seek_leaves (described (seek_row false fd offset whence objects_now).granted.deeds) objects_now all (moves (seek_row false fd offset whence objects_now).granted.deeds) false fd offset whence)
+  all_good (LoLseek64 fd offset whence) none = on_objects_good (seek_row true fd offset whence) (λ all. seek_leaves (described (seek_row true fd offset whence objects_now).granted.deeds) objects_now all (moves (seek_row true fd offset whence objects_now).granted.deeds) true fd offset whence)
+  all_good (LoTell fd) none = on_objects_good (tell_row false fd) (λ all. tell_leaves (described (tell_row false fd objects_now).granted.deeds) objects_now all false fd)
+  all_good (LoTell64 fd) none = on_objects_good (tell_row true fd) (λ all. tell_leaves (described (tell_row true fd objects_now).granted.deeds) objects_now all true fd)
+  all_good (LoTruncate fd size) none = on_objects_good (truncate_row fd size) (λ all. truncate_leaves (described (truncate_row fd size objects_now).granted.deeds) objects_now all fd size)
+  all_good (LoTruncate64 fd size) none = on_objects_good (truncate_row fd size) (λ all. truncate_leaves (described (truncate_row fd size objects_now).granted.deeds) objects_now all fd size)
+  all_good (LoUnlink o) none = on_objects_good (unlink_row o) (λ all. unlink_leaves (described (unlink_row o objects_now).granted.deeds) objects_now all o)
+  all_good (LoGet o from count) none = on_objects_good (get_row o from count) (λ all. all)
+  all_good (LoPut o at bytes) none = on_objects_good (put_row o at bytes) (λ all. all)
+  all_good (LoFromBytea o bytes) none = on_objects_good (create_row o bytes) (λ all. all)
+  all_good (CreateTable name columns) none = on_rows_good (create_table_row name columns) refl
+  all_good (Insert t values) none = called_good (insert_line t values (here st s)).granted (λ all. all) (λ all. all)
+  all_good (Update t i changes) none = called_good (update_line t i changes (here st s)).granted (λ all. all) (λ all. all)
+  all_good (Delete t i) none = on_rows_good (delete_row t i) refl
+  all_good (Get t i) none = called_good (get_line t i (here st s)).granted (λ all. all) (λ all. all)
+  all_good (Ids t) none = on_rows_good (ids_row t) refl
+  all_good (Slice t i column from count) none = on_rows_good (slice_row t i column from count) refl
+  all_good (Declare name t i) none = declare_good name t i
+  all_good (Fetch name column from count) none = on_rows_good (cursors.fetch_row name column from count) refl
+  all_good (Close name) none = close_good name
+  all_good (Rewrite t storages) none = on_rows_good (rewrite_row t storages) refl
+  all_good (Array name text) none = called_good (array_line name text (here st s)).granted (λ all. all) (λ all. all)
+  all_good (Load name t i column) none = called_good (load_line name t i column (here st s)).granted (λ all. all) (λ all. all)
+  all_good (Set name sub value) none = called_good (set_line name sub value (here st s)).granted (λ all. all) (λ all. all)
+  all_good (Elem name sub) none = called_good (elem_line name sub (here st s)).granted (λ all. all) (λ all. all)
+  all_good (Show name) none = called_good (show_line name (here st s)).granted (λ all. all) (λ all. all)
+  all_good Vacuum none = answered_good (Word words.Vacuum)
+  all_good (Vacuumlo dry limit) none = answered_good (Counted words.Listed (length (oids_in (view_of st s))))
+  all_good Step none = act_good (act_of st s)
+  all_good Finish none = act_good (act_of st s)
 
   -- granted or refused
-  outcome_good : (r : Request) → is_served r ≡ true → IsGood st s (granted_or_refused st s r (refusal_of st s r))
-  outcome_good r served = by (refusal_of st s r) refl
+  outcome_good : (r : Request) → IsGood st s (granted_or_refused st s r (refusal_of st s r))
+  outcome_good r = by (refusal_of st s r) refl
     where
       by : (refusal : Option Refusal) → refusal_of st s r ≡ refusal → IsGood st s (granted_or_refused st s r refusal)
-      by None is = all_good r served (first_none (failed st s r) (refusals st s r) is).1
+      by None is = all_good r (first_none (failed st s r) (refusals st s r) is).1
       by (Some refusal) is = refused_good refusal
 
--- A clean-up alone is told of its act, and those are not served.
-pub untold : (st : State) (s : ℕ) (r : Request) (refused : Bool) (done : Outcome) → is_served r ≡ true → told_sweep st s r refused done ≡ done
-untold st s Step refused done served = absurd (false≢true served)
-untold st s Finish refused done served = absurd (false≢true served)
-untold st s r refused done served = refl
+-- A clean-up alone is told of its act.
+pub untold : (st : State) (s : ℕ) (r : Request) (refused : Bool) (done : Outcome) → is_plain r ≡ true → told_sweep st s r refused done ≡ done
+untold st s Step refused done plain = absurd (false≢true plain)
+untold st s Finish refused done plain = absurd (false≢true plain)
+untold st s r refused done plain = refl
 
-pub well_after : (st : State) (s : ℕ) (r : Request) → is_served r ≡ true → IsSpelled r → IsRanged r → IsWell st → IsWell (state_after st s r)
-well_after st s r served spelled ranged well =
-    subst (λ (done : Outcome). IsWell (state_with st s done)) (sym (untold st s r (is_some (refusal_of st s r)) (granted_or_refused st s r (refusal_of st s r)) served))
-    (well_with st s (granted_or_refused st s r (refusal_of st s r)) well (outcome_good st s well r served) (outcome_kept st s well r served spelled ranged))
+told_good : (st : State) (s : ℕ) (one done : Outcome) → IsSame one done → IsGood st s done → IsGood st s one
+told_good st s one done same good = rw (same.database, same.session) good
+
+told_kept : (one done : Outcome) → IsSame one done → IsKept done → IsKept one
+told_kept one done same kept = record {
+  flat = subst (λ (d : Database). AreFlatRows d.tables d.edits) (sym same.database) kept.flat;
+  named = subst (λ (d : Database). AreNamed d.tables) (sym same.database) kept.named;
+  held = subst AreHeld (sym same.variables) kept.held;
+}
+
+pub well_after : (st : State) (s : ℕ) (r : Request) → IsSpelled r → IsRanged r → IsWell st → IsWell (state_after st s r)
+well_after st s r spelled ranged well =
+    let done : Outcome = granted_or_refused st s r (refusal_of st s r) in
+    let same : IsSame (outcome st s r) done = request_same st s r (is_some (refusal_of st s r)) done in
+    well_with st s (outcome st s r) well (told_good st s (outcome st s r) done same (outcome_good st s well r)) (told_kept (outcome st s r) done same (outcome_kept st s well r spelled ranged))

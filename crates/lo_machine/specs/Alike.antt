@@ -15,7 +15,7 @@ abbrev pub ReadsNone : List (Edit Deed) → Reading → Type 0
 ReadsNone edits (Kept clock) = SeesNone edits clock
 ReadsNone edits Current = Unit {0}
 
--- what an engine reads and what a state has
+-- what a server reads and what a state has
 pub record AreAlike (later here : Here) : Type 0 where
   pub now : later.now ≡ here.now + 1
   pub session : later.session ≡ here.session

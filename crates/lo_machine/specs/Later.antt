@@ -1,5 +1,5 @@
--- An engine makes the edits of a request at the present clock and sees them at once, so its views are those of the clock
--- above. What a state keeps of a view at a clock, an engine keeps at the clock above.
+-- A server makes the edits of a request at the present clock and sees them at once, so its views are those of the clock
+-- above. What a state keeps of a view at a clock, a server keeps at the clock above.
 use Rattle.std.specs.Prelude.{ℕ, ◌+◌, ◌==◌, List, map, if◌then◌else◌}
 use Rattle.lo_model.specs.Descriptor.{Reading, Kept, Current, Descriptor, Cursor}
 use Rattle.lo_model.specs.Session.{Session}

@@ -11,7 +11,7 @@ pub mod Later
 pub mod Literals
 pub mod Loading
 pub mod Moves
-pub mod NewEngine
+pub mod NewServer
 pub mod Program
 pub mod Replay
 pub mod Replies
@@ -19,10 +19,13 @@ pub mod Row
 pub mod Run
 pub mod Running
 pub mod Served
+pub mod Server
 pub mod Spelled
 pub mod State
 pub mod Step
+pub mod SweepLaw
 pub mod SweepRows
+pub mod Sweeping
 pub mod TableRows
 pub mod Terms
 pub mod TransactionRows

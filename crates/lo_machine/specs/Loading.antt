@@ -1,4 +1,4 @@
--- An engine that is made of an opening: its tables and its objects stand for edits of one session, whose transaction is open.
+-- A server that is made of an opening: its tables and its objects stand for edits of one session, whose transaction is open.
 use Rattle.std.specs.Prelude.{◌≡◌, ◌<◌, ℕ, Bool, true, false, List, ◌++◌, length, flat_map}
 use Rattle.lo_model.specs.declared.owner.Owner.TheVariants.{Running}
 use Rattle.lo_model.specs.Edit.{Deed, Create, Write, Cut, Unlink, Put, Delete, Edit, edits_by}
@@ -9,12 +9,12 @@ use Rattle.lo_pages.specs.Standing.{StandFor}
 use Rattle.lo_restore.specs.Objects.{now_by}
 use Rattle.row_versions.specs.Stack.{Each}
 use Rattle.xact_core.specs.Transactions.{Transactions}
-use Rattle.lo_machine.specs.declared.engine.Engine.{Engine}
+use Rattle.lo_machine.specs.declared.server.Server.{Server}
 use Rattle.lo_machine.specs.CallRows.{shared_of}
-use Rattle.lo_machine.specs.Engine.{Has, HasRows, IsEngine, clock_of, names_in}
+use Rattle.lo_machine.specs.Server.{Has, HasRows, IsServer, clock_of, names_in}
 use Rattle.lo_machine.specs.Fitting.{IsFitOpening}
 use Rattle.lo_machine.specs.Later.{with_session_at}
-use Rattle.lo_machine.specs.NewEngine.{AreNone}
+use Rattle.lo_machine.specs.NewServer.{AreNone}
 use Rattle.lo_machine.specs.Run.{database_of}
 use Rattle.lo_machine.specs.Values.{plan_of}
 
@@ -48,10 +48,10 @@ ArePuts deeds = Each (λ (d : Deed). is_put d ≡ true) deeds
 pub record StandBehindRows (x : Transactions) (s : ℕ) (deeds : List Deed) (pages : Pages) : Type 0 where
   pub stand : (puts : List Deed) → ArePuts puts → StandFor x pages (now_by x s (puts ++ deeds))
 
--- The engine of an opening whose rows and objects fit, before the commit.
-pub record IsLoaded (opening : Opening) (e : Engine) : Type 0 where
+-- The server of an opening whose rows and objects fit, before the commit.
+pub record IsLoaded (opening : Opening) (e : Server) : Type 0 where
   pub fit : IsFitOpening opening
-  pub sound : IsEngine e
+  pub sound : IsServer e
   pub rows : HasRows e
   pub time : clock_of e ≡ 0
   pub begun : 0 < length (names_in e loading_session)

@@ -5,13 +5,13 @@ ghost use Rattle.lo_base.specs.declared.refusal.Denied.TheVariants.{By};
 ghost use Rattle.row_tables.specs.Terms.{refusal};
 ghost use Rattle.lo_machine.specs.ArrayRows.{array_line, elem_line, set_line, show_line};
 ghost use Rattle.lo_machine.specs.Dispatch.{ReadsCall};
-ghost use Rattle.lo_machine.specs.Engine.{HasRows, IsEngine};
+ghost use Rattle.lo_machine.specs.Server.{HasRows, IsServer};
 
-use crate::engine::Engine;
+use crate::server::Server;
 use expanded_array::ArrayVar;
 use lo_base::{Bytes, Cause, Denied, Name, Refusal, Reply, SessionNo, Word};
 
-impl Engine {
+impl Server {
     /// `array`: a variable of that name gets the array that a text spells.
     pub(crate) fn make_array(
         &mut self,
@@ -19,7 +19,7 @@ impl Engine {
         name: &Name,
         text: &[u8],
     ) -> Result<Reply, Denied>
-        requires sound { IsEngine self.old }
+        requires sound { IsServer self.old }
         requires rows { HasRows self.old }
         ensures { ReadsCall s (array_line name.now text.now) self.old self.new result }
     {
@@ -41,7 +41,7 @@ impl Engine {
         sub: i32,
         value: Option<i32>,
     ) -> Result<Reply, Denied>
-        requires sound { IsEngine self.old }
+        requires sound { IsServer self.old }
         requires rows { HasRows self.old }
         ensures { ReadsCall s (set_line name.now sub value) self.old self.new result }
     {
@@ -53,7 +53,7 @@ impl Engine {
 
     /// `elem`: one element of a variable's array.
     pub(crate) fn element(&mut self, s: SessionNo, name: &Name, sub: i32) -> Result<Reply, Denied>
-        requires sound { IsEngine self.old }
+        requires sound { IsServer self.old }
         requires rows { HasRows self.old }
         ensures { ReadsCall s (elem_line name.now sub) self.old self.new result }
     {
@@ -68,7 +68,7 @@ impl Engine {
 
     /// `show`: the text of a variable's array.
     pub(crate) fn show(&mut self, s: SessionNo, name: &Name) -> Result<Reply, Denied>
-        requires sound { IsEngine self.old }
+        requires sound { IsServer self.old }
         requires rows { HasRows self.old }
         ensures { ReadsCall s (show_line name.now) self.old self.new result }
     {

@@ -6,26 +6,25 @@ ghost use Rattle.lo_machine.specs.CallRow.{call_row, reads, reads_rows, sets, wr
 ghost use Rattle.lo_machine.specs.CallRow.{is_call, is_on_data};
 ghost use Rattle.lo_machine.specs.CallRows.{misplaced_by};
 ghost use Rattle.lo_machine.specs.Dispatch.{CanCall, AnswersCall, ReadsCall, AnswersInBlock};
-ghost use Rattle.lo_machine.specs.Engine.{names_in, HasRows, IsEngine, Does, Undone, HasRoom};
-ghost use Rattle.lo_machine.specs.Served.{IsServed};
+ghost use Rattle.lo_machine.specs.Server.{names_in, HasRows, IsServer, Does, Undone, HasRoom};
+ghost use Rattle.lo_machine.specs.Served.{IsPlain};
 ghost use Rattle.lo_machine.specs.Step.{tried};
 
-use crate::engine::Engine;
+use crate::server::Server;
 use lo_base::{Cause, Denied, Name, NoMemory, Reply, Request, SessionNo};
 
 /// The name of the level in which a request writes. It is gone before the next request.
 const OWN_LEVEL: &[u8] = b"request";
 
-impl Engine {
+impl Server {
     /// A request on data.
     pub(crate) fn call(&mut self, s: SessionNo, request: &Request) -> Result<Reply, NoMemory>
-        requires sound { IsEngine self.old }
+        requires sound { IsServer self.old }
         requires rows { HasRows self.old }
         requires room { HasRoom self.old }
-        requires served { IsServed request.now }
+        requires plain { IsPlain request.now }
         requires data { is_on_data request.now ≡ true }
-        requires unfailed { slice_index_or self.old.failed.items (s - 1) false ≡ false }
-        ensures sound { IsEngine self.new }
+        ensures sound { IsServer self.new }
         ensures ok { IfOk result (Does self.old self.new s (λ st. tried st s request.now)) }
         ensures err { OnErr result (Undone self.old self.new) }
     {
@@ -44,11 +43,11 @@ impl Engine {
 
     /// A request on array variables, which needs no transaction.
     fn set(&mut self, s: SessionNo, request: &Request) -> Result<Reply, NoMemory>
-        requires sound { IsEngine self.old }
+        requires sound { IsServer self.old }
         requires rows { HasRows self.old }
         requires room { HasRoom self.old }
         requires sets { sets request.now ≡ true }
-        ensures sound { IsEngine self.new }
+        ensures sound { IsServer self.new }
         ensures ok { IfOk result (Does self.old self.new s (λ st. tried st s request.now)) }
         ensures err { OnErr result (Undone self.old self.new) }
     {
@@ -63,14 +62,14 @@ impl Engine {
 
     /// A request outside a block, in a transaction of its own.
     fn call_alone(&mut self, s: SessionNo, request: &Request) -> Result<Reply, NoMemory>
-        requires sound { IsEngine self.old }
+        requires sound { IsServer self.old }
         requires rows { HasRows self.old }
         requires room { HasRoom self.old }
-        requires served { IsServed request.now }
+        requires plain { IsPlain request.now }
         requires call { is_call request.now ≡ true }
         requires placed { misplaced_by request.now false ≡ None }
         requires none { names_in self.old s ≡ [] }
-        ensures sound { IsEngine self.new }
+        ensures sound { IsServer self.new }
         ensures ok { IfOk result (Does self.old self.new s (λ st. tried st s request.now)) }
         ensures err { OnErr result (Undone self.old self.new) }
     {
@@ -98,15 +97,14 @@ impl Engine {
 
     /// A request in a block.
     fn call_in_block(&mut self, s: SessionNo, request: &Request) -> Result<Reply, NoMemory>
-        requires sound { IsEngine self.old }
+        requires sound { IsServer self.old }
         requires rows { HasRows self.old }
         requires room { HasRoom self.old }
-        requires served { IsServed request.now }
+        requires plain { IsPlain request.now }
         requires call { is_call request.now ≡ true }
         requires placed { misplaced_by request.now true ≡ None }
-        requires unfailed { slice_index_or self.old.failed.items (s - 1) false ≡ false }
         requires open { 0 < length (names_in self.old s) }
-        ensures sound { IsEngine self.new }
+        ensures sound { IsServer self.new }
         ensures ok { IfOk result (Does self.old self.new s (λ st. tried st s request.now)) }
         ensures err { OnErr result (Undone self.old self.new) }
     {
@@ -119,13 +117,12 @@ impl Engine {
 
     /// A request in a block, which stays as it is where the request is refused.
     fn try_in_block(&mut self, s: SessionNo, request: &Request) -> Result<Reply, Denied>
-        requires sound { IsEngine self.old }
+        requires sound { IsServer self.old }
         requires rows { HasRows self.old }
         requires room { HasRoom self.old }
-        requires served { IsServed request.now }
+        requires plain { IsPlain request.now }
         requires call { is_call request.now ≡ true }
         requires placed { misplaced_by request.now true ≡ None }
-        requires unfailed { slice_index_or self.old.failed.items (s - 1) false ≡ false }
         requires open { 0 < length (names_in self.old s) }
         ensures { AnswersInBlock s request.now self.old self.new result }
     {
@@ -140,18 +137,18 @@ impl Engine {
 
     /// A request that writes, in a level of its own.
     fn call_in_level(&mut self, s: SessionNo, request: &Request) -> Result<Reply, Denied>
-        requires sound { IsEngine self.old }
+        requires sound { IsServer self.old }
         requires rows { HasRows self.old }
         requires room { HasRoom self.old }
-        requires served { IsServed request.now }
+        requires plain { IsPlain request.now }
         requires writes { writes request.now ≡ true }
         requires placed { misplaced_by request.now true ≡ None }
-        requires unfailed { slice_index_or self.old.failed.items (s - 1) false ≡ false }
         requires open { 0 < length (names_in self.old s) }
         ensures { AnswersInBlock s request.now self.old self.new result }
     {
         // Numbers of sessions are from 1 to 16.
         let _ = s.number();
+        let failed = self.is_failed(s);
         let Ok(name) = Name::from_slice(self.alloc, OWN_LEVEL) else {
             return Err(Denied::NoMemory);
         };
@@ -165,7 +162,7 @@ impl Engine {
                 Ok(reply)
             }
             Err(denied) => {
-                self.undo(s, level, false);
+                self.undo(s, level, failed);
                 self.merge(s, level);
                 Err(denied)
             }
@@ -175,7 +172,7 @@ impl Engine {
     /// A request that needs a transaction, in the session's.
     fn do_call(&mut self, s: SessionNo, request: &Request) -> Result<Reply, Denied>
         requires can { CanCall s self.old }
-        requires served { IsServed request.now }
+        requires plain { IsPlain request.now }
         requires call { is_call request.now ≡ true }
         ensures { AnswersCall s (call_row request.now) self.old self.new result }
     {
@@ -189,7 +186,7 @@ impl Engine {
     /// A request that may make edits, tables or cursors.
     fn change(&mut self, s: SessionNo, request: &Request) -> Result<Reply, Denied>
         requires can { CanCall s self.old }
-        requires served { IsServed request.now }
+        requires plain { IsPlain request.now }
         requires writes { writes request.now ≡ true }
         ensures { AnswersCall s (call_row request.now) self.old self.new result }
     {
@@ -209,7 +206,7 @@ impl Engine {
     /// One on tables, rows or cursors.
     fn change_rows(&mut self, s: SessionNo, request: &Request) -> Result<Reply, Denied>
         requires can { CanCall s self.old }
-        requires served { IsServed request.now }
+        requires plain { IsPlain request.now }
         requires writes { writes_rows request.now ≡ true }
         ensures { AnswersCall s (call_row request.now) self.old self.new result }
     {
@@ -268,7 +265,7 @@ impl Engine {
 
     /// One on array variables.
     fn try_set(&mut self, s: SessionNo, request: &Request) -> Result<Reply, Denied>
-        requires sound { IsEngine self.old }
+        requires sound { IsServer self.old }
         requires rows { HasRows self.old }
         requires sets { sets request.now ≡ true }
         ensures { ReadsCall s (call_row request.now) self.old self.new result }

@@ -2,19 +2,19 @@
 ghost use Rattle.std.specs.Prelude.{◌≡◌, ◌≤◌, IfOk};
 ghost use Rattle.lo_opening.specs.Meaning.{opening_of};
 ghost use Rattle.lo_machine.specs.Committed.{committed_opening};
-ghost use Rattle.lo_machine.specs.Engine.{HasRows, HasState, IsEngine, StandsFor};
+ghost use Rattle.lo_machine.specs.Server.{HasRows, HasState, IsServer, StandsFor};
 ghost use Rattle.lo_machine.specs.State.{State};
 
-use crate::engine::Engine;
+use crate::server::Server;
 use lo_base::NoMemory;
 use lo_opening::Opening;
 use lo_restore::{chunks_held, saved_objects, saved_tables};
 
-impl Engine {
+impl Server {
     /// The committed database of a pool of so many blocks. Transaction blocks that are open are not in it. It costs what the
     /// database holds. A database that no image has room for, of 2^32 blocks or more, is answered as want of memory.
     pub fn committed(&self, blocks: u32) -> Result<Opening, NoMemory>
-        requires sound { IsEngine self.now }
+        requires sound { IsServer self.now }
         requires rows { HasRows self.now }
         requires stands { HasState self.now }
         requires least { 1 ≤ blocks }

@@ -5,10 +5,10 @@ ghost use Rattle.lo_calls.specs.ObjectRows.{create_row, unlink_row, get_row, put
 ghost use Rattle.lo_machine.specs.Dispatch.{CanCall, AnswersCall, ReadsCall};
 ghost use Rattle.lo_machine.specs.Row.{on_objects};
 
-use crate::engine::Engine;
+use crate::server::Server;
 use lo_base::{Denied, Oid, Reply, SessionNo, Word};
 
-impl Engine {
+impl Server {
     pub(crate) fn create(&mut self, s: SessionNo, oid: Oid) -> Result<Reply, Denied>
         requires { CanCall s self.old }
         ensures { AnswersCall s (on_objects (create_row oid [])) self.old self.new result }

@@ -1,18 +1,21 @@
-// Laws of the definitions, and of what an engine keeps. No code calls these functions.
-ghost use Rattle.std.specs.Prelude.{◌≡◌, ℕ, List};
+// Laws of the definitions, and of what a server keeps. No code calls these functions.
+ghost use Rattle.std.specs.Prelude.{◌≡◌, ℕ, List, Option, Some};
 ghost use Rattle.lo_base.specs.declared.request.Request.{Request as Line};
 ghost use Rattle.lo_model.specs.Opening.{Opening};
 ghost use Rattle.lo_opening.specs.Meaning.{opening_of};
 ghost use Rattle.lo_opening.specs.Opening.{IsOpening, OpeningData};
-ghost use Rattle.lo_machine.specs.declared.engine.Engine.{Engine};
-ghost use Rattle.lo_machine.specs.Engine.{IsEngine, StandsFor, KeepsViews};
+ghost use Rattle.lo_machine.specs.declared.server.Server.{Server};
+ghost use Rattle.lo_machine.specs.Server.{IsServer, StandsFor, KeepsViews};
 ghost use Rattle.lo_machine.specs.Committed.{committed_opening};
 ghost use Rattle.lo_machine.specs.Fitting.{AreRanged, HasKeptRanges, IsFit, IsFitOpening};
 ghost use Rattle.lo_machine.specs.Replies.{HasArrayTexts};
+ghost use Rattle.lo_machine.specs.Replay.{Play, moment_of};
 ghost use Rattle.lo_machine.specs.Run.{IsOrderOf, IsWholeFrom, end_from, schedule_from, start, start_from, start_of};
-ghost use Rattle.lo_machine.specs.Served.{AreServed, IsServed};
+ghost use Rattle.lo_machine.specs.Served.{ArePlain, AreServed, IsServed};
 ghost use Rattle.lo_machine.specs.State.{State};
 ghost use Rattle.lo_machine.specs.Step.{reply_to, state_after};
+ghost use Rattle.lo_machine.specs.SweepLaw.{CommitsWhole, ComesFrom, EndsAtRun, IsSweepOf, IsSweeping, KeepsHistory, RemovesInRun, ReportsAtEnd, Sweeping};
+ghost use Rattle.orphan_sweep.specs.History.{History};
 ghost use Rattle.lo_machine.specs.Well.{IsWell};
 
 /// The schedule of an order of some programs is whole, from every opening. No code runs.
@@ -22,17 +25,17 @@ pub fn orders_are_whole()
         (schedule_from programs (start_from opening) order) }
 {}
 
-/// Where all requests are among those served so far, each line takes one advance. No code runs.
-pub fn served_lines_take_one_advance()
+/// Where no request is one of a clean-up, each line takes one advance. No code runs.
+pub fn plain_lines_take_one_advance()
     ensures { (opening : Opening) (programs : List (List Line)) (order : List ℕ) →
-        AreServed programs → schedule_from programs (start_from opening) order ≡ order }
+        ArePlain programs → schedule_from programs (start_from opening) order ≡ order }
 {}
 
-/// The views that an engine's transactions keep are those that each state keeps for which it stands: that of what is
+/// The views that a server's transactions keep are those that each state keeps for which it stands: that of what is
 /// committed, of each session with a block its own and the one below each of its levels, and those that open descriptors
 /// read in. So a reclamation leaves what these read. No code runs.
 pub fn kept_views_are_the_states()
-    ensures { (e : Engine) (st : State) → IsEngine e → StandsFor e st → KeepsViews e st }
+    ensures { (e : Server) (st : State) → IsServer e → StandsFor e st → KeepsViews e st }
 {}
 
 /// Each text in a reply is an array's, whatever state and request it is of. No code runs.
@@ -59,4 +62,20 @@ pub fn databases_stay_fit()
 pub fn openings_come_back()
     ensures { (d : OpeningData) → IsOpening d →
         committed_opening d.blocks (start_from (opening_of d)).state ≡ opening_of d }
+{}
+
+/// What a clean-up of orphans does, over every schedule of all sessions. In a run it was begun by its session's last granted
+/// `vacuumlo`. Each act was the one that the answers before it called for, and was answered by what it did. At its report it
+/// has removed the numbers of its list that no scan found, each once, in groups of at most the limit; in a dry run none; and
+/// it tells how many. One that was refused an unlink has undone that group, and tells how many the groups before it have.
+/// Each group is committed whole, at one clock. Then the objects that a scan found are still there, where no other session
+/// unlinked them, and those of the rest are gone but for those made again. No code runs.
+pub fn sweeps_remove_what_no_scan_found()
+    ensures begun { (play : Play) (session : ℕ) (h : History) →
+        ((moment_of play).state.players session).sweep ≡ Some h → ComesFrom play session h }
+    ensures runs { (play : Play) (w : Sweeping) → IsSweepOf play w → EndsAtRun play w }
+    ensures told { (w : Sweeping) → IsSweeping w → KeepsHistory w }
+    ensures reported { (w : Sweeping) (line : Line) → IsSweeping w → ReportsAtEnd w line }
+    ensures whole { (w : Sweeping) → IsSweeping w → CommitsWhole w }
+    ensures removes { (play : Play) (w : Sweeping) → RemovesInRun play w }
 {}

@@ -4,13 +4,13 @@ ghost use Rattle.std.specs.Prelude.{◌≡◌, ◌<◌, ◌≤◌, ◌+◌, ◌-
 ghost use Rattle.lo_model.specs.Levels.{released, undone, aborted, committed};
 ghost use Rattle.lo_model.specs.Session.{idle_session, session_released, session_undone};
 ghost use Rattle.xact_core.specs.Kept.{kept_views};
-ghost use Rattle.lo_machine.specs.Engine.{xacts_of, clock_of, names_in, IsEngine, Becomes, Loses};
+ghost use Rattle.lo_machine.specs.Server.{xacts_of, clock_of, names_in, IsServer, Becomes, Loses};
 ghost use Rattle.lo_machine.specs.Moves.{unturned, session_opened};
 
-use crate::engine::Engine;
+use crate::server::Server;
 use lo_base::{Name, NoMemory, SessionNo};
 
-impl Engine {
+impl Server {
     /// Whether the session has a transaction.
     pub(crate) fn is_open(&self, s: SessionNo) -> bool
         ensures open { result ≡ true → 0 < length (names_in self.now s) }
@@ -24,7 +24,7 @@ impl Engine {
 
     /// Whether the session's block is failed.
     pub(crate) fn is_failed(&self, s: SessionNo) -> bool
-        requires sound { IsEngine self.now }
+        requires sound { IsServer self.now }
         ensures { result ≡ slice_index_or self.now.failed.items (s - 1) false }
     {
         self.failed[s.place()]
@@ -32,10 +32,10 @@ impl Engine {
 
     /// Begins the session's transaction.
     pub(crate) fn open(&mut self, s: SessionNo) -> Result<(), NoMemory>
-        requires sound { IsEngine self.old }
+        requires sound { IsServer self.old }
         requires none { names_in self.old s ≡ [] }
         requires views { length (kept_views (xacts_of self.old)) < 2 ^ 64 - 4 }
-        ensures sound { IsEngine self.new }
+        ensures sound { IsServer self.new }
         ensures ok { OnOk result (Becomes s (None ∷ []) unturned (session_opened None) self.old self.new) }
         ensures err { OnErr result (self.new ≡ self.old) }
     {
@@ -49,10 +49,10 @@ impl Engine {
 
     /// Adds a level with a name above the session's levels.
     pub(crate) fn save(&mut self, s: SessionNo, name: Name) -> Result<(), NoMemory>
-        requires sound { IsEngine self.old }
+        requires sound { IsServer self.old }
         requires open { 0 < length (names_in self.old s) }
         requires views { length (kept_views (xacts_of self.old)) < 2 ^ 64 - 4 }
-        ensures sound { IsEngine self.new }
+        ensures sound { IsServer self.new }
         ensures ok { OnOk result (Becomes s (names_in self.old s ++ Some name ∷ []) unturned
             (session_opened (Some name)) self.old self.new) }
         ensures err { OnErr result (self.new ≡ self.old) }
@@ -67,10 +67,10 @@ impl Engine {
 
     /// Merges a level of the session and all above it into the level below it. The level counts from 1.
     pub(crate) fn merge(&mut self, s: SessionNo, level: u64)
-        requires sound { IsEngine self.old }
+        requires sound { IsServer self.old }
         requires low { 2 ≤ level }
         requires high { level ≤ length (names_in self.old s) }
-        ensures sound { IsEngine self.new }
+        ensures sound { IsServer self.new }
         ensures becomes { Becomes s (take (level - 1) (names_in self.old s)) (released s level)
             (session_released level) self.old self.new }
     {
@@ -86,11 +86,11 @@ impl Engine {
     /// Undoes a level of the session and all above it, and leaves the level empty. The level counts from 1. The block is then
     /// failed, or not.
     pub(crate) fn undo(&mut self, s: SessionNo, level: u64, failed: bool)
-        requires sound { IsEngine self.old }
+        requires sound { IsServer self.old }
         requires low { 1 ≤ level }
         requires high { level ≤ length (names_in self.old s) }
         requires few { (xacts_of self.old).undos < 2 ^ 63 }
-        ensures sound { IsEngine self.new }
+        ensures sound { IsServer self.new }
         ensures becomes { Becomes s (take level (names_in self.old s)) (undone s level)
             (session_undone level failed) self.old self.new }
         ensures loses { Loses s level self.old self.new }
@@ -108,9 +108,9 @@ impl Engine {
 
     /// Commits the session's transaction at the present clock, and closes its descriptors and cursors.
     pub(crate) fn end_committed(&mut self, s: SessionNo)
-        requires sound { IsEngine self.old }
+        requires sound { IsServer self.old }
         requires open { 0 < length (names_in self.old s) }
-        ensures sound { IsEngine self.new }
+        ensures sound { IsServer self.new }
         ensures becomes { Becomes s [] (committed s (clock_of self.old)) (λ session. idle_session) self.old
             self.new }
     {
@@ -124,9 +124,9 @@ impl Engine {
 
     /// Undoes the session's transaction, and closes its descriptors and cursors.
     pub(crate) fn end_aborted(&mut self, s: SessionNo)
-        requires sound { IsEngine self.old }
+        requires sound { IsServer self.old }
         requires open { 0 < length (names_in self.old s) }
-        ensures sound { IsEngine self.new }
+        ensures sound { IsServer self.new }
         ensures becomes { Becomes s [] (aborted s) (λ session. idle_session) self.old self.new }
     {
         // Numbers of sessions are from 1 to 16.

@@ -5,6 +5,7 @@
 mod arrays;
 mod calls;
 mod cells;
+mod cleanup;
 mod committed;
 mod dispatch;
 mod engine;
@@ -16,12 +17,18 @@ mod programs;
 mod ranges;
 mod rows;
 mod running;
+mod scanning;
+mod server;
+mod sweeping;
 #[cfg(test)]
 mod tests;
 mod transactions;
 mod variables;
 
 pub use engine::Engine;
-pub use law::{kept_views_are_the_states, orders_are_whole, served_lines_take_one_advance};
+pub use law::{
+    kept_views_are_the_states, orders_are_whole, plain_lines_take_one_advance,
+    sweeps_remove_what_no_scan_found,
+};
 pub use programs::Programs;
 pub use running::{Finished, Replies, Running, Schedule};

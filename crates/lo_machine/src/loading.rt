@@ -1,4 +1,4 @@
-// An engine at its beginning: the tables and the objects of an opening are made in one transaction of a session, which is
+// A server at its beginning: the tables and the objects of an opening are made in one transaction of a session, which is
 // committed at clock 0, before the first request.
 ghost use Rattle.std.specs.Prelude.{◌≡◌, ◌≤◌, None, IfOk, length, map, flat_map};
 ghost use Rattle.lo_model.specs.Opening.{object_deeds};
@@ -10,12 +10,12 @@ ghost use Rattle.lo_restore.specs.Tables.{deeds_in, named_of};
 ghost use Rattle.lo_restore.specs.TablesRestored.{HaveDone};
 ghost use Rattle.xact_core.specs.Ends.{Opens};
 ghost use Rattle.xact_core.specs.Transactions.{beginning};
-ghost use Rattle.lo_machine.specs.Engine.{HasRows, IsEngine, StandsFor};
+ghost use Rattle.lo_machine.specs.Server.{HasRows, IsServer, StandsFor};
 ghost use Rattle.lo_machine.specs.Loading.{IsLoaded, StandBehindRows, loading_session};
-ghost use Rattle.lo_machine.specs.NewEngine.{AreNew, AreNone};
+ghost use Rattle.lo_machine.specs.NewServer.{AreNew, AreNone};
 ghost use Rattle.lo_machine.specs.Run.{start_from};
 
-use crate::engine::Engine;
+use crate::server::Server;
 use crate::variables::Variables;
 use lo_base::{NoMemory, SESSIONS, SessionNo};
 use lo_calls::{Descs, LoSession, LoStore};
@@ -27,23 +27,23 @@ use row_versions::Core;
 use std::alloc::Global;
 use xact_core::Xacts;
 
-impl Engine {
-    /// An engine of an opening's database, before its first request. It costs what the opening holds.
-    pub fn start(alloc: Global, opening: &Opening) -> Result<Engine, NoMemory>
-        ensures sound { IfOk result IsEngine }
+impl Server {
+    /// A server of an opening's database, before its first request. It costs what the opening holds.
+    pub fn start(alloc: Global, opening: &Opening) -> Result<Server, NoMemory>
+        ensures sound { IfOk result IsServer }
         ensures rows { IfOk result HasRows }
-        ensures stands { IfOk result (λ engine.
-            StandsFor engine (start_from (opening_of opening.now)).state) }
+        ensures stands { IfOk result (λ server.
+            StandsFor server (start_from (opening_of opening.now)).state) }
     {
         let s = loader();
-        let mut engine = Engine::loaded(alloc, s, opening)?;
-        engine.end_committed(s);
-        engine.core.xacts.tick();
-        Ok(engine)
+        let mut server = Server::loaded(alloc, s, opening)?;
+        server.end_committed(s);
+        server.core.xacts.tick();
+        Ok(server)
     }
 
-    /// An engine that was made of an opening in a session's transaction, which is still open.
-    fn loaded(alloc: Global, s: SessionNo, opening: &Opening) -> Result<Engine, NoMemory>
+    /// A server that was made of an opening in a session's transaction, which is still open.
+    fn loaded(alloc: Global, s: SessionNo, opening: &Opening) -> Result<Server, NoMemory>
         requires { s ≡ loading_session }
         ensures { IfOk result (IsLoaded (opening_of opening.now)) }
     {
@@ -55,7 +55,7 @@ impl Engine {
         let pages = loaded_pages(alloc, &mut core, s, opening.objects.items())?;
         let mut failed = Vec::new(alloc);
         failed.resize(SESSIONS as usize, false)?;
-        Ok(Engine {
+        Ok(Server {
             alloc,
             core,
             store: LoStore {

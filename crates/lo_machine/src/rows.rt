@@ -15,15 +15,15 @@ ghost use Rattle.lo_machine.specs.Spelled.{AreChanges, IsLiteral};
 ghost use Rattle.lo_machine.specs.TableRows.{declare_line, get_line, insert_line, update_line};
 
 use crate::cells::{are_flat, array_of, reply_cells};
-use crate::engine::Engine;
 use crate::literals::{changes_of, values_of};
+use crate::server::Server;
 use lo_base::{
     Assign, Cause, Column, ColumnList, Denied, Literal, Name, NoMemory, Refusal, Reply, SessionNo,
     Value, Word,
 };
 use std::alloc::Global;
 
-impl Engine {
+impl Server {
     /// `create table`, outside transaction blocks.
     pub(crate) fn create_table(
         &mut self,

@@ -1,14 +1,20 @@
 // A run: programs, the schedule so far, the replies, and the engine. The type keeps that replaying gives the replies; the
 // engine is called in one place, `advance`.
-ghost use Rattle.std.specs.Prelude.{◌≡◌, ◌+◌, [], IsTrue, IsFalse, IfOk, OnOk, OnErr};
+ghost use Rattle.std.specs.Prelude.{◌≡◌, ◌+◌, ◌<◌, ◌-◌, ◌^◌, ℕ, [], IsTrue, IsFalse, IfOk, OnOk, OnErr};
 ghost use Rattle.lo_opening.specs.Meaning.{opening_of};
 ghost use Rattle.lo_machine.specs.Committed.{committed_opening};
-ghost use Rattle.lo_machine.specs.Replay.{Play, HasLine, Replays, Advances, moment_of};
+ghost use Rattle.lo_machine.specs.Engine.{IsEngine, StandsFor};
+ghost use Rattle.lo_machine.specs.Replay.{Play, HasLine, Replays, IsPlayed, Advances, DoesLine, moment_of};
+ghost use Rattle.lo_machine.specs.Run.{lines_after, stays_at_line};
+ghost use Rattle.lo_machine.specs.State.{State};
+ghost use Rattle.lo_machine.specs.SweepLaw.{IsSweepOf, KeepsSweepLaw, Sweeping};
+ghost use Rattle.lo_machine.specs.SweepRows.{is_before_report};
 
 use crate::engine::Engine;
 use crate::programs::Programs;
-use lo_base::{ListOf, NoMemory, Reply, SESSIONS, SessionNo};
+use lo_base::{ListOf, NoMemory, Reply, Request, SESSIONS, SessionNo};
 use lo_opening::Opening;
+use orphan_sweep::SweepAct;
 use std::alloc::Global;
 use std::marker::Model;
 
@@ -96,11 +102,14 @@ impl Running {
         done as u64 + 1
     }
 
-    /// Does the session's next line. After want of memory all is as before, and the line can be tried again.
+    /// Does the session's next request, which is its next line, or one act of a `finish`. After want of memory all is as before, and the line can be tried again.
     pub fn advance(&mut self, s: SessionNo) -> Result<(), NoMemory>
         requires { HasLine self.old s }
         ensures ok { OnOk result (Advances s self.old self.new) }
         ensures err { OnErr result (self.new ≡ self.old) }
+        // Whatever the schedule, each clean-up that is under way where its session advances keeps the law of clean-ups.
+        ensures sweeps { OnOk result ((w : Sweeping) → IsSweepOf self.old w →
+            KeepsSweepLaw self.old w) }
     {
         if self.schedule.len() >= MOST_ADVANCES {
             return Err(NoMemory);
@@ -108,13 +117,29 @@ impl Running {
         let place = s.place();
         let done = self.lines_done[place];
         let request = &self.programs.lines(s)[done];
+        let over = lines_after(&self.engine, s, request, done);
         self.schedule.reserve(1)?;
         self.replies.reserve(1)?;
         let reply = self.engine.step(s, request)?;
         self.schedule.push_reserved(s);
         self.replies.push_reserved((s, reply));
-        self.lines_done[place] = done + 1;
+        self.lines_done[place] = over;
         Ok(())
+    }
+
+    /// Does the session's next line: one advance, or for a `finish` one for each act up to its clean-up's report. After want of
+    /// memory some of them may be done.
+    pub fn do_line(&mut self, s: SessionNo) -> Result<(), NoMemory>
+        requires { HasLine self.old s }
+        ensures { OnOk result (DoesLine s self.old self.new) }
+    {
+        let line = self.line(s);
+        loop {
+            self.advance(s)?;
+            if self.line(s) != line {
+                return Ok(());
+            }
+        }
     }
 
     /// The committed database, the schedule and the replies of the whole run. Blocks that are open are undone.
@@ -124,6 +149,7 @@ impl Running {
         ensures schedule { IfOk result (λ end. end.schedule ≡ self.schedule) }
         ensures replies { IfOk result (λ end. end.replies ≡ self.replies) }
         ensures replays { Replays self }
+        ensures played { IsPlayed self }
     {
         let run = &self;
         let opening = run.engine.committed(run.opening.blocks)?;
@@ -133,4 +159,34 @@ impl Running {
             replies: ListOf::from_vec(self.replies),
         })
     }
+}
+
+/// How many lines of the session's program are done after its next request, where so many are done before it.
+fn lines_after(engine: &Engine, s: SessionNo, request: &Request, done: usize) -> usize
+    requires sound { IsEngine engine.now }
+    requires few { done < 2 ^ 64 - 1 }
+    ensures { (st : State) (count : ℕ → ℕ) → StandsFor engine.now st → done ≡ count s →
+        result ≡ lines_after st s request.now count s }
+{
+    if stays_at_line(engine, s, request) {
+        done
+    } else {
+        done + 1
+    }
+}
+
+/// Whether a request is a `finish` whose act stands before its clean-up's report, after which the session stays at its line.
+fn stays_at_line(engine: &Engine, s: SessionNo, request: &Request) -> bool
+    requires sound { IsEngine engine.now }
+    ensures { (st : State) → StandsFor engine.now st →
+        result ≡ stays_at_line st s request.now }
+{
+    matches!(request, Request::Finish) && is_before_report(engine.act(s))
+}
+
+/// Whether an act stands before its clean-up's report.
+fn is_before_report(act: &SweepAct) -> bool
+    ensures { result ≡ is_before_report act.now }
+{
+    !matches!(act, SweepAct::Report | SweepAct::Idle)
 }

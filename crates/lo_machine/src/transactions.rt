@@ -2,21 +2,21 @@
 // TO SAVEPOINT, VACUUM.)
 ghost use Rattle.std.specs.Prelude.{◌≡◌, ◌<◌, ◌≤◌, ◌^◌, pos, length, IfOk, IfSome, OnErr};
 ghost use Rattle.lo_model.specs.Transaction.{newest};
-ghost use Rattle.lo_machine.specs.Engine.{xacts_of, names_in, HasRows, IsEngine, Does, Undone, HasRoom};
+ghost use Rattle.lo_machine.specs.Server.{xacts_of, names_in, HasRows, IsServer, Does, Undone, HasRoom};
 ghost use Rattle.lo_machine.specs.State.{refused};
 ghost use Rattle.lo_machine.specs.Terms.{refusal};
 ghost use Rattle.lo_base.specs.declared.refusal.Cause.TheVariants.{NoBlock, NoSavepoint};
 ghost use Rattle.lo_machine.specs.Transactions.{no_level};
 ghost use Rattle.lo_machine.specs.Step.{tried};
 
-use crate::engine::Engine;
+use crate::server::Server;
 use lo_base::{Cause, Name, NoMemory, Refusal, Reply, Request, SessionNo, Word};
 
-impl Engine {
+impl Server {
     pub(crate) fn begin(&mut self, s: SessionNo) -> Result<Reply, NoMemory>
-        requires sound { IsEngine self.old }
+        requires sound { IsServer self.old }
         requires room { HasRoom self.old }
-        ensures sound { IsEngine self.new }
+        ensures sound { IsServer self.new }
         ensures ok { IfOk result (Does self.old self.new s (λ st. tried st s Request.Begin)) }
         ensures err { OnErr result (Undone self.old self.new) }
     {
@@ -29,8 +29,8 @@ impl Engine {
     }
 
     pub(crate) fn commit(&mut self, s: SessionNo) -> Reply
-        requires sound { IsEngine self.old }
-        ensures sound { IsEngine self.new }
+        requires sound { IsServer self.old }
+        ensures sound { IsServer self.new }
         ensures does { Does self.old self.new s (λ st. tried st s Request.Commit) result }
     {
         if !self.is_open(s) {
@@ -45,8 +45,8 @@ impl Engine {
     }
 
     pub(crate) fn rollback(&mut self, s: SessionNo) -> Reply
-        requires sound { IsEngine self.old }
-        ensures sound { IsEngine self.new }
+        requires sound { IsServer self.old }
+        ensures sound { IsServer self.new }
         ensures does { Does self.old self.new s (λ st. tried st s Request.Rollback) result }
     {
         if self.is_open(s) {
@@ -56,9 +56,9 @@ impl Engine {
     }
 
     pub(crate) fn savepoint(&mut self, s: SessionNo, name: &Name) -> Result<Reply, NoMemory>
-        requires sound { IsEngine self.old }
+        requires sound { IsServer self.old }
         requires room { HasRoom self.old }
-        ensures sound { IsEngine self.new }
+        ensures sound { IsServer self.new }
         ensures ok { IfOk result (Does self.old self.new s
             (λ st. tried st s (Request.Savepoint name.now))) }
         ensures err { OnErr result (Undone self.old self.new) }
@@ -76,9 +76,9 @@ impl Engine {
     }
 
     pub(crate) fn release(&mut self, s: SessionNo, name: &Name) -> Reply
-        requires sound { IsEngine self.old }
+        requires sound { IsServer self.old }
         requires room { HasRoom self.old }
-        ensures sound { IsEngine self.new }
+        ensures sound { IsServer self.new }
         ensures does { Does self.old self.new s (λ st. tried st s (Request.Release name.now)) result }
     {
         let Some(level) = self.newest(s, name) else {
@@ -89,9 +89,9 @@ impl Engine {
     }
 
     pub(crate) fn rollback_to(&mut self, s: SessionNo, name: &Name) -> Reply
-        requires sound { IsEngine self.old }
+        requires sound { IsServer self.old }
         requires room { HasRoom self.old }
-        ensures sound { IsEngine self.new }
+        ensures sound { IsServer self.new }
         ensures does { Does self.old self.new s (λ st. tried st s (Request.RollbackTo name.now)) result }
     {
         let Some(level) = self.newest(s, name) else {
@@ -103,10 +103,10 @@ impl Engine {
 
     /// Takes away what no kept view needs.
     pub(crate) fn vacuum(&mut self, s: SessionNo) -> Reply
-        requires sound { IsEngine self.old }
+        requires sound { IsServer self.old }
         requires rows { HasRows self.old }
         requires room { HasRoom self.old }
-        ensures sound { IsEngine self.new }
+        ensures sound { IsServer self.new }
         ensures does { Does self.old self.new s (λ st. tried st s Request.Vacuum) result }
     {
         if self.is_open(s) {
@@ -119,7 +119,7 @@ impl Engine {
 
     /// The session's newest level with the name, counted from 1, which is never level 1.
     fn newest(&self, s: SessionNo, name: &Name) -> Option<u64>
-        requires sound { IsEngine self.now }
+        requires sound { IsServer self.now }
         ensures level { result ≡ newest name.now (names_in self.now s) }
         ensures low { IfSome result (λ level. 2 ≤ level) }
         ensures high { IfSome result (λ level. level ≤ length (names_in self.now s)) }
@@ -132,9 +132,9 @@ impl Engine {
 
     /// The refusal of a savepoint that is not there.
     fn no_savepoint(&mut self, s: SessionNo) -> Reply
-        requires sound { IsEngine self.old }
+        requires sound { IsServer self.old }
         requires room { HasRoom self.old }
-        ensures sound { IsEngine self.new }
+        ensures sound { IsServer self.new }
         ensures does { Does self.old self.new s (λ st. refused st s (no_level st s)) result }
     {
         let cause = if self.is_open(s) {
@@ -147,9 +147,9 @@ impl Engine {
 
     /// A refusal that names no number.
     pub(crate) fn refuse(&mut self, s: SessionNo, cause: Cause) -> Reply
-        requires sound { IsEngine self.old }
+        requires sound { IsServer self.old }
         requires few { (xacts_of self.old).undos < 2 ^ 63 }
-        ensures sound { IsEngine self.new }
+        ensures sound { IsServer self.new }
         ensures does { Does self.old self.new s (λ st. refused st s (refusal cause (pos 0))) result }
     {
         self.refuse_by(s, Refusal { cause, subject: 0 })
@@ -157,9 +157,9 @@ impl Engine {
 
     /// A refusal, which undoes the top level of the session's block and fails the block, if it has one.
     pub(crate) fn refuse_by(&mut self, s: SessionNo, refusal: Refusal) -> Reply
-        requires sound { IsEngine self.old }
+        requires sound { IsServer self.old }
         requires few { (xacts_of self.old).undos < 2 ^ 63 }
-        ensures sound { IsEngine self.new }
+        ensures sound { IsServer self.new }
         ensures does { Does self.old self.new s (λ st. refused st s refusal) result }
     {
         // Numbers of sessions are from 1 to 16.

@@ -1,6 +1,6 @@
 use Rattle.std.proofs.Common.{◌≡◌, ◌-◌, ◌+◌, List, sym, subst, arith}
 use Rattle.lo_calls.specs.declared.session.LoSession.{LoSession}
-use Rattle.lo_machine.proofs.NewEngine.{AreNewBelow, one_more}
+use Rattle.lo_machine.proofs.NewServer.{AreNewBelow, one_more}
 use Rattle.lo_machine.proofs.loading.new_sessions.Goals as goal
 
 pub loop-number-preserved : goal.loop-number-preserved

@@ -1,4 +1,4 @@
-use Rattle.lo_machine.proofs.NewEngine.{AreNewBelow}
+use Rattle.lo_machine.proofs.NewServer.{AreNewBelow}
 use Rattle.lo_machine.proofs.loading.new_sessions.Given as goal
 
 abbrev pub invariant-loop-number : goal.invariant-loop-number

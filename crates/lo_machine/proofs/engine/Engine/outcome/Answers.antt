@@ -1,25 +1,26 @@
-use Rattle.std.proofs.Common.{◌≡◌, ◌≤◌, true, sym, ◌∙◌}
-use Rattle.std.proofs.lemmas.Bool.{true≢false}
+use Rattle.std.proofs.Common.{inl, inr, subst, sym}
+use Rattle.std.specs.Prelude.{IfOk}
 use Rattle.std.proofs.lemmas.Result.{IfOk-weaker}
-use Rattle.lo_machine.specs.Transactions.{may_recover}
-use Rattle.lo_machine.proofs.Steps.{tried_does, failed_does}
+use Rattle.lo_base.specs.declared.request.Request.{Request}
+use Rattle.lo_base.specs.declared.request.Request.TheVariants.{Finish, Step}
+use Rattle.lo_machine.specs.Engine.{Does}
+use Rattle.lo_machine.specs.Step.{outcome}
+use Rattle.lo_machine.proofs.EngineSteps.{plain_does, plain_request, undone_by}
 use Rattle.lo_machine.proofs.engine.Engine.outcome.Goals as goal
-use Rattle.lo_machine.proofs.engine.Engine.outcome.Goals.{else-is_failed-via-then-is_failed+else-not-may_recover, else-is_failed-via-else-is_failed}
-
-pub returns-then-not-may_recover-clause-ok : goal.returns-then-not-may_recover-clause-ok
-returns-then-not-may_recover-clause-ok c =
-    let range : (1 ≤ c.args.s) × (c.args.s ≤ 16) = rw c.number.ensures.same at c.number.ensures.range in
-    failed_does c.args.s range.0 range.1 c.args.self.now c.refuse.new.self c.args.request.now c.requires.served.0 c.is_failed.result c.is_failed.ensures c.refuse.result c.if-is_failed.true (sym c.if-not-may_recover.ensures) c.refuse.ensures.does
 
 pub returns-in_default : goal.returns-in_default
 returns-in_default c =
-    let range : (1 ≤ c.args.s) × (c.args.s ≤ 16) = rw c.number.ensures.same at c.number.ensures.range in
-    let may : c.is_failed.result ≡ true → may_recover c.args.request.now ≡ true = λ is. elim c.else-is_failed.branch [
-      | else-is_failed-via-then-is_failed+else-not-may_recover w ↦ sym w.if-not-may_recover.ensures
-      | else-is_failed-via-else-is_failed w ↦ absurd (true≢false (sym is ∙ w.if-is_failed.false))
-    ] in
+    let plain = plain_request c.args.request.now c.in_default.not-Vacuumlo c.in_default.not-Step c.in_default.not-Finish in
     record {
-      sound = c.call.ensures.sound;
-      ok = IfOk-weaker c.call.result _ _ (λ reply does. tried_does c.args.s range.0 range.1 c.args.self.now c.call.new.self c.args.request.now c.requires.served.0 c.is_failed.result c.is_failed.ensures reply may does) c.call.ensures.ok;
-      err = c.call.ensures.err;
+      sound = record { server = c.outcome.ensures.sound; sixteen = c.requires.sound.sound.sixteen };
+      ok = IfOk-weaker c.outcome.result _ _ (λ reply does. plain_does c.args.self.now c.outcome.new.self c.args.s c.args.request.now reply plain does) c.outcome.ensures.ok;
+      err = undone_by c.args.self.now c.outcome.new.self c.outcome.result c.outcome.ensures.err;
     }
+
+pub returns-in-Step-clause-ok : goal.returns-in-Step-clause-ok
+returns-in-Step-clause-ok c =
+    let does = λ (r : Request). IfOk c.do_act.result (Does c.args.self.now c.do_act.new.self c.args.s (λ st. outcome st c.args.s r)) in
+    elim c.in-Step.is [
+      | inl is ↦ subst does (sym is) c.do_act.ensures.ok
+      | inr is ↦ subst does (sym is) c.do_act.ensures.ok
+    ]

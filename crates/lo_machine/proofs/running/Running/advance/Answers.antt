@@ -8,7 +8,8 @@ use Rattle.lo_machine.specs.Program.{program_of}
 use Rattle.lo_machine.specs.Replay.{Play, HasLine, moment_of}
 use Rattle.lo_machine.specs.Run.{next_line}
 use Rattle.lo_machine.specs.Running.{play_of}
-use Rattle.lo_machine.proofs.ReplayedRuns.{AdvancedBy, moves_on, advanced, stayed, advances, slice_get_some_within}
+use Rattle.lo_machine.proofs.ReplayedRuns.{AdvancedBy, advanced, stayed, advances, slice_get_some_within}
+use Rattle.lo_machine.proofs.SweepLaws.{keeps_law}
 use Rattle.lo_machine.proofs.running.Running.advance.Goals as goal
 
 pub invariant_of-self-in_err-reply : goal.invariant_of-self-in_err-reply
@@ -19,13 +20,12 @@ invariant_of-self-in_err-reply c = stayed c.self.inside _ c.self.invariant recor
   replies = search rules;
   lines_done = search rules;
   sound = c.in_err-reply.ensures.sound;
-  rows = c.in_err-reply.ensures.rows;
   stands = c.in_err-reply.ensures.serves.err;
 }
 
 -- what the advance changed, in the words of the lemmas
 changed : (c : goal.After-self-1) → AdvancedBy c.args.s c.place-place.result c.index-lines-done.result c.in_ok-reply.reply c.self.inside
-    (record { opening = c.self.inside.opening; programs = c.self.inside.programs; lines_done = with_item c.self.inside.lines_done c.place-place.result (c.index-done.result.now + 1); schedule = c.push_reserved.new.self; replies = c.push_reserved-2.new.self; engine = c.step.new.self })
+    (record { opening = c.self.inside.opening; programs = c.self.inside.programs; lines_done = with_item c.self.inside.lines_done c.place-place.result c.lines_after-over.result; schedule = c.push_reserved.new.self; replies = c.push_reserved-2.new.self; engine = c.step.new.self })
 changed c =
     let session : c.args.s ≡ c.place-place.result + 1 = search rules in
     let low : c.place-place.result < 16 = omega arith in
@@ -49,12 +49,10 @@ changed c =
       programs = refl;
       schedule = rw (c.push_reserved.ensures.items, c.reserve.ensures.items) refl;
       replies = rw (c.push_reserved-2.ensures.items, c.reserve-2.ensures.items) refl;
-      lines_done = ap (λ (n : ℕ). set c.self.inside.lines_done.items c.place-place.result (n + 1)) done;
+      lines_done = ap (set c.self.inside.lines_done.items c.place-place.result) (c.lines_after-over.ensures _ (moment_of (play_of c.self.inside)).lines_done c.self.invariant.stands here);
       answer = (c.in_ok-reply.ensures.serves.ok _ c.self.invariant.stands).0;
       stands = (c.in_ok-reply.ensures.serves.ok _ c.self.invariant.stands).1;
       sound = c.in_ok-reply.ensures.sound;
-      rows = c.in_ok-reply.ensures.rows;
-      moves = moves_on (moment_of (play_of c.self.inside)).state c.args.s c.index-lines-done.result (search rules);
     }
 
 pub invariant_of-self-2 : goal.invariant_of-self-2
@@ -62,3 +60,6 @@ invariant_of-self-2 c = advanced _ _ _ _ _ _ c.self.invariant (changed c)
 
 pub returns-clause-ok : goal.returns-clause-ok
 returns-clause-ok c = advances _ _ _ _ _ _ _ c.self.view_is (changed c)
+
+pub returns-clause-sweeps : goal.returns-clause-sweeps
+returns-clause-sweeps c = λ w is. keeps_law c.args.self.now w is

@@ -1,5 +1,0 @@
-use Rattle.lo_machine.proofs.Orders.{served}
-use Rattle.lo_machine.proofs.law.served_lines_take_one_advance.Goals as goal
-
-pub returns : goal.returns
-returns c = served
