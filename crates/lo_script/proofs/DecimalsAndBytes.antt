@@ -15,7 +15,8 @@ use Rattle.std.proofs.lemmas.Slice.Eq.{bytes_eq-Decides}
 use Rattle.hex.specs.Hex.{IsBytes, decode_of}
 use Rattle.hex.specs.declared.error.FromHexError.{FromHexError}
 use Rattle.hex.proofs.HexLemmas.{decode_of-ok}
-use Rattle.lo_script.specs.Token.{integer_of, in_range, int8_of, int4_of, natural_to, oid_of, oid_limit, of_at_most, bytes_of}
+use Rattle.lo_machine.specs.Spelled.{sweep_limit}
+use Rattle.lo_script.specs.Token.{integer_of, in_range, int8_of, int4_of, natural_to, oid_of, oid_limit, limit_of, of_at_most, bytes_of}
 
 pub tested : (b : Bool) → (b ≡ true) ⊎ (b ≡ false)
 tested true = inl refl
@@ -86,10 +87,10 @@ int4_of-prints token n h =
     let range = in_range-some (2 ^ 31) found.0 n found.2 in
     record { is = (int8_of-prints token found.0 found.1).is ∙ ap signed_decimal range.0; small = range.1 }
 
--- and so does a token of an object's number
-pub record PrintsOid (token : List ℕ) (oid : ℕ) : Type 0 where
-  pub is : token ≡ decimal oid
-  pub high : oid ≤ oid_limit
+-- and so does a token of a number from 0 to a greatest one
+pub record PrintsNatural (most : ℕ) (token : List ℕ) (n : ℕ) : Type 0 where
+  pub is : token ≡ decimal n
+  pub high : n ≤ most
 
 natural_to-some : (most : ℕ) (n : ℤ) (m : ℕ) → natural_to most n ≡ Some m → (n ≡ pos m) × (m ≤ most)
 natural_to-some most (negsuc n) m h = cc h
@@ -100,11 +101,17 @@ natural_to-some most (pos n) m h = elim (tested (nat_le n most)) [
   | inr beyond ↦ let none = rw beyond at h in cc none
 ]
 
-pub oid_of-prints : (token : List ℕ) (oid : ℕ) → oid_of token ≡ Some oid → PrintsOid token oid
-oid_of-prints token oid h =
-    let found = and_then-some (natural_to oid_limit) (int8_of token) oid h in
-    let range = natural_to-some oid_limit found.0 oid found.2 in
+natural-prints : (most : ℕ) (token : List ℕ) (n : ℕ) → option_and_then (natural_to most) (int8_of token) ≡ Some n → PrintsNatural most token n
+natural-prints most token n h =
+    let found = and_then-some (natural_to most) (int8_of token) n h in
+    let range = natural_to-some most found.0 n found.2 in
     record { is = (int8_of-prints token found.0 found.1).is ∙ ap signed_decimal range.0; high = range.1 }
+
+pub oid_of-prints : (token : List ℕ) (oid : ℕ) → oid_of token ≡ Some oid → PrintsNatural oid_limit token oid
+oid_of-prints = natural-prints oid_limit
+
+pub limit_of-prints : (token : List ℕ) (limit : ℕ) → limit_of token ≡ Some limit → PrintsNatural sweep_limit token limit
+limit_of-prints = natural-prints sweep_limit
 
 -- a number in the range prints as a token that is accepted
 pub int8_of-decimal : (n : ℤ) → mag n < 2 ^ 63 → int8_of (signed_decimal n) ≡ Some n
@@ -116,6 +123,11 @@ int4_of-decimal n small = rw (int8_of-decimal n (omega (arith, small))) (in_rang
 pub oid_of-decimal : (oid : ℕ) → oid ≤ oid_limit → oid_of (decimal oid) ≡ Some oid
 oid_of-decimal oid high =
     let read : int8_of (decimal oid) ≡ Some (pos oid) = int8_of-decimal (pos oid) (omega (arith, high)) in
+    rw read (grind (arith, nat_tests))
+
+pub limit_of-decimal : (limit : ℕ) → limit ≤ sweep_limit → limit_of (decimal limit) ≡ Some limit
+limit_of-decimal limit high =
+    let read : int8_of (decimal limit) ≡ Some (pos limit) = int8_of-decimal (pos limit) (omega (arith, high)) in
     rw read (grind (arith, nat_tests))
 
 -- where no number in the range prints as the token, none is accepted

@@ -1,8 +1,7 @@
 -- Worked examples of the grammar and of printed replies, each computed by the checker: a wrong one fails the crate.
-use Rattle.std.proofs.Common.{◌≡◌, refl, pos, negsuc, List, [], ◌∷◌, ◌++◌, Some, None, replicate}
+use Rattle.std.proofs.Common.{◌≡◌, ℕ, refl, pos, negsuc, List, [], ◌∷◌, ◌++◌, Some, None, replicate}
 use Rattle.std.specs.Prelude.{codes}
 use Rattle.std.specs.Fmt.{digits}
-use Rattle.std.proofs.lemmas.List.Elements.{All-nil, All-cons}
 use Rattle.hex.specs.Hex.{encode_with, decode_pairs}
 use Rattle.lo_base.specs.declared.refusal.Cause.TheVariants.{NoObject, ObjectExists}
 use Rattle.lo_base.specs.declared.reply.Reply.TheVariants.{Word, Number, Content, Nothing, Row, Ids, Text, Counted, Stopped, Refused}
@@ -10,14 +9,18 @@ use Rattle.lo_base.specs.declared.reply.Word.TheVariants as words
 use Rattle.lo_base.specs.declared.value.Cell.TheVariants as cells
 use Rattle.lo_base.specs.declared.request.Request.{Request}
 use Rattle.lo_base.specs.declared.request.Request.TheVariants.{Begin, Commit, Rollback, Savepoint, Release, RollbackTo, LoCreat, LoCreate, LoOpen, LoClose, LoRead, LoWrite, LoLseek, LoLseek64, LoTell, LoTell64, LoTruncate, LoTruncate64, LoUnlink, LoGet, LoPut, LoFromBytea, Vacuum}
-use Rattle.lo_script.specs.Reading.{Read, BadAt}
+use Rattle.lo_script.specs.Reading.{Reading, Read, BadAt}
 use Rattle.lo_script.specs.Token.{int8_of, int4_of, oid_of, bytes_of, name_of, session_of}
-use Rattle.lo_script.specs.Script.{script_of, script_with, entry_of, IsAllowed, IsFirstBad}
+use Rattle.lo_script.specs.Script.{script_of, script_with, entry_behind, IsFirstBad, InLine}
 use Rattle.lo_script.specs.ReplyText.{text_of, line_of, lines_of}
 
 -- the programs of session 1 and of fifteen sessions with no line
 abbrev alone : List Request → List (List Request)
 alone program = program ∷ replicate 15 []
+
+-- a line behind no other
+abbrev pub entry_of : (line : List ℕ) → Reading (ℕ × Request)
+entry_of line = entry_behind [] line
 
 -- Scripts
 
@@ -329,16 +332,17 @@ second_argument_wrong = refl
 -- the second line is skipped, and the third lacks a token
 first_bad_line : IsFirstBad (codes "A: lo_get 5\n#\nA: lo_get\nB:\n") 3 10
 unfolding digits
-first_bad_line = record {
+first_bad_line = InLine (record {
   before = codes "A: lo_get 5" ∷ codes "#" ∷ [];
   line = codes "A: lo_get";
   after = codes "B:" ∷ [];
+  so_far = script_with (alone (LoGet 5 (pos 0) None ∷ [])) (1 ∷ []);
   split = refl;
   counted = refl;
-  allowed = All-cons IsAllowed (codes "A: lo_get 5") (codes "#" ∷ []) (λ _. refl) (All-cons IsAllowed (codes "#") [] (λ e. cc e) (All-nil IsAllowed));
+  allowed = refl;
   request = refl;
   bad = refl;
-}
+})
 
 -- Replies
 

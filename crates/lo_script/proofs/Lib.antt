@@ -1,4 +1,5 @@
 mod Examples
+mod SweepExamples
 mod TableExamples
 pub mod ArrayForms
 pub mod CutTexts
@@ -15,6 +16,8 @@ pub mod ReadLists
 pub mod Readers
 pub mod ScriptOrder
 pub mod SpelledRequests
+pub mod SweepForms
+pub mod SweepLines
 pub mod TableForms
 pub mod ValueTokens
 pub mod WrittenLines

@@ -78,7 +78,7 @@ if_new-some name_in so_far a b h = elim (tested (is_among name_in so_far (name_i
   | inr new ↦ (some_injective a b (rw new at h), new)
 ]
 
-or-none : (a b : Bool) → (a || b) ≡ false → (a ≡ false) × (b ≡ false)
+pub or-none : (a b : Bool) → (a || b) ≡ false → (a ≡ false) × (b ≡ false)
 or-none true b h = cc h
 or-none false b h = (refl, h)
 

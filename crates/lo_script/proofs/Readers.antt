@@ -1,10 +1,11 @@
 -- What it says of the tokens that a reader read a value from them.
-use Rattle.std.proofs.Common.{◌≡◌, ℕ, List, [], ◌∷◌, ◌++◌, Some, None, refl, ap}
-use Rattle.std.specs.Prelude.{Option}
-use Rattle.lo_script.specs.Reader.{Reader, first_token, no_token, one_token, two_tokens, three_tokens, four_tokens, none_or, more_tokens}
+use Rattle.std.proofs.Common.{◌≡◌, ℕ, List, [], ◌∷◌, ◌++◌, Some, None, refl, ap, inl, inr}
+use Rattle.std.specs.Prelude.{Option, bytes_eq}
+use Rattle.std.proofs.lemmas.Slice.Eq.{bytes_eq-Decides}
+use Rattle.lo_script.specs.Reader.{Reader, first_token, no_token, one_token, two_tokens, three_tokens, four_tokens, none_or, behind_word_or, more_tokens}
 use Rattle.lo_script.specs.Reading.{Reading, Read, BadAt, read_at, read_and, value_of}
 use Rattle.lo_script.specs.Token.{TokenList, column_after}
-use Rattle.lo_script.proofs.DecimalsAndBytes.{some_injective}
+use Rattle.lo_script.proofs.DecimalsAndBytes.{tested, some_injective}
 
 abbrev read_or : {A : Type 0} → A → Reading A → A
 read_or other (Read a) = a
@@ -51,6 +52,16 @@ no_token-finds Has made h column (token ∷ more) r e = cc e
 pub none_or-finds : {R : Type 0} (Has : TokenList → R → Type 0) (made : R) (others : Reader R) → Has [] made → Finds others Has → Finds (none_or made others) Has
 none_or-finds Has made others h k column [] r e = rw (← read_injective made r e) h
 none_or-finds Has made others h k column (token ∷ more) r e = k column (token ∷ more) r e
+
+pub behind_word_or-finds : {R : Type 0} (Has : TokenList → R → Type 0) (word : List ℕ) (behind others : Reader R) → Finds behind (λ more. Has (word ∷ more)) → Finds others Has
+    → Finds (behind_word_or word behind others) Has
+behind_word_or-finds Has word behind others h k column [] r e = k column [] r e
+behind_word_or-finds Has word behind others h k column (token ∷ more) r e = elim (tested (bytes_eq token word)) [
+  | inl same ↦
+      let is : token ≡ word = (bytes_eq-Decides token word).0 same in
+      rw is (h (column_after column token more) more r (rw same at e))
+  | inr other ↦ k column (token ∷ more) r (rw other at e)
+]
 
 pub first_token-finds : {A R : Type 0} (Has : TokenList → R → Type 0) (value : List ℕ → Option A) (others : A → Reader R)
     → ((token : List ℕ) (a : A) → value token ≡ Some a → Finds (others a) (λ more. Has (token ∷ more))) → Finds (first_token value others) Has

@@ -1,34 +1,32 @@
--- The order of a script names each session once for each line of its program.
-use Rattle.std.proofs.Common.{◌≡◌, ◌≢◌, ℕ, ◌+◌, ◌-◌, ◌≤◌, ◌==◌, List, [], ◌∷◌, ◌++◌, length, replicate, Some, None, refl, ap, ◌∙◌, inl, inr, cond, arith, length-append, length-set, subst}
-use Rattle.std.specs.Prelude.{All, count_by, Option, option_map, slice_set, filter, nat_lt}
+-- The order of a script names each session once for each line of its program, and each clean-up in it has its finish.
+use Rattle.std.proofs.Common.{◌≡◌, ◌≢◌, ℕ, zero, suc, ◌+◌, ◌-◌, ◌≤◌, ◌==◌, List, [], ◌∷◌, ◌++◌, length, replicate, Some, None, true, false, refl, ap, sym, ◌∙◌, inl, inr, cond, arith, length-append, length-set, subst}
+use Rattle.std.specs.Prelude.{All, count_by, Option, option_map, slice_set, nat_lt}
 use Rattle.std.specs.Str.Lines.{lines}
 use Rattle.std.proofs.lemmas.Bool.{cases_eq}
 use Rattle.std.proofs.lemmas.Bool.Decides.{nat_tests}
 use Rattle.std.proofs.lemmas.List.{get_or-set_same, get_or-set_other, get_or-replicate, get_or_past}
 use Rattle.std.proofs.lemmas.List.Sums.{sum_by-append}
-use Rattle.std.proofs.lemmas.List.Elements.{All-nil, All-cons, All-head, All-tail, All-push}
+use Rattle.std.proofs.lemmas.List.Elements.{All-nil, All-push}
 use Rattle.lo_base.specs.declared.request.Request.{Request}
-use Rattle.lo_machine.specs.Program.{program_of}
+use Rattle.lo_machine.specs.Program.{IsProgram, program_of}
 use Rattle.lo_machine.specs.Run.{IsOrderOf}
-use Rattle.lo_script.specs.Token.{column_after, session_of, tokens_of}
-use Rattle.lo_script.specs.Form.{request_of}
-use Rattle.lo_script.specs.Reading.{Read}
-use Rattle.lo_script.specs.Script.{ScriptText, script_with, entry_of, entry_in, request_by, all_of, with_entry, with_entries, script_of, is_request_line}
+use Rattle.lo_script.specs.Reading.{value_of}
+use Rattle.lo_script.specs.Script.{ScriptText, IsFinished, empty_script, ends_in_sweep, entry_behind, if_finished, is_request_line, script_of, with_entry, with_line, with_lines}
+use Rattle.lo_script.specs.SweepForm.{is_in_sweep}
 use Rattle.lo_script.proofs.DecimalsAndBytes.{tested, some_injective, and_then-some}
-use Rattle.lo_script.proofs.Readers.{first_token-some, read_and-some, read_injective, value_of-some}
-use Rattle.lo_script.proofs.MarksAndNames.{session-some}
+use Rattle.lo_script.proofs.Readers.{value_of-some}
+use Rattle.lo_script.proofs.SpelledRequests.{ReadEntry, entry-spelled}
+use Rattle.lo_script.proofs.SweepLines.{none_in, sweeps-push}
 
 abbrev Entry : Type 0
 Entry = ℕ × Request
 
-abbrev IsSession : Entry → Type 0
-IsSession entry = (1 ≤ entry.0) × (entry.0 ≤ 16)
-
--- sixteen programs, and their order
+-- sixteen programs, whose clean-ups stand as they must, and their order
 record IsOrdered (script : ScriptText) : Type 0 where
   sixteen : length script.programs ≡ 16
   sessions : All (λ session. 1 ≤ session) script.order
   counted : (session : ℕ) → 1 ≤ session → length (program_of script.programs session) ≡ count_by (λ entry. entry == session) script.order
+  sweeps : (session : ℕ) → 1 ≤ session → IsProgram (program_of script.programs session)
 
 count_push : (s t : ℕ) (order : List ℕ) → count_by (λ entry. entry == s) (order ++ t ∷ []) ≡ count_by (λ entry. entry == s) order + cond (t == s) 1 0
 count_push s t order = let e = sum_by-append (λ (u : ℕ). cond (u == s) 1 0) order (t ∷ []) in e ∙ ap (λ (n : ℕ). count_by (λ entry. entry == s) order + n) (omega arith)
@@ -39,7 +37,7 @@ grown_here programs s r low high =
     let same = get_or-set_same programs (s - 1) (program_of programs s ++ r ∷ []) [] (omega arith) in
     ap (λ (lines : List Request). length lines) same ∙ length-append (program_of programs s) (r ∷ [])
 
-kept_elsewhere : (programs : List (List Request)) (s t : ℕ) (r : Request) → 1 ≤ s → 1 ≤ t → s ≢ t
+pub kept_elsewhere : (programs : List (List Request)) (s t : ℕ) (r : Request) → 1 ≤ s → 1 ≤ t → s ≢ t
     → program_of (slice_set programs (s - 1) (program_of programs s ++ r ∷ [])) t ≡ program_of programs t
 kept_elsewhere programs s t r low-s low-t other = get_or-set_other programs (s - 1) (t - 1) (program_of programs s ++ r ∷ []) [] (λ e. other (omega arith))
 
@@ -62,50 +60,92 @@ counted_more script s r low high h t low-t = elim (cases_eq s t) [
       omega (arith, kept, h.counted t low-t, count_push t s script.order, none)
 ]
 
-ordered_more : (script : ScriptText) (entry : Entry) → IsSession entry → IsOrdered script → IsOrdered (with_entry script entry)
-ordered_more script entry session h = record {
+pub grows_at : (programs : List (List Request)) (s : ℕ) (r : Request) → 1 ≤ s → s ≤ length programs → program_of (slice_set programs (s - 1) (program_of programs s ++ r ∷ [])) s ≡ program_of programs s ++ r ∷ []
+grows_at programs s r low high = get_or-set_same programs (s - 1) (program_of programs s ++ r ∷ []) [] (omega arith)
+
+sweeps_more : (script : ScriptText) (entry : Entry) → ReadEntry script.programs entry → IsOrdered script → (t : ℕ) → 1 ≤ t → IsProgram (program_of (with_entry script entry).programs t)
+sweeps_more script entry read h t low-t = elim (cases_eq entry.0 t) [
+  | inl same ↦
+      let grown = grows_at script.programs entry.0 entry.1 read.low (rw h.sixteen read.high) in
+      let longer = sweeps-push false (program_of script.programs entry.0) entry.1 (h.sweeps entry.0 read.low) read.stands in
+      rw (← same) (subst IsProgram (sym grown) longer)
+  | inr other ↦ subst IsProgram (sym (kept_elsewhere script.programs entry.0 t entry.1 read.low low-t other)) (h.sweeps t low-t)
+]
+
+ordered_more : (script : ScriptText) (entry : Entry) → ReadEntry script.programs entry → IsOrdered script → IsOrdered (with_entry script entry)
+ordered_more script entry read h = record {
   sixteen = rw length-set h.sixteen;
-  sessions = All-push (λ s. 1 ≤ s) script.order entry.0 h.sessions session.0;
-  counted = counted_more script entry.0 entry.1 session.0 session.1 h;
+  sessions = All-push (λ s. 1 ≤ s) script.order entry.0 h.sessions read.low;
+  counted = counted_more script entry.0 entry.1 read.low read.high h;
+  sweeps = sweeps_more script entry read h;
 }
 
-ordered_all : (entries : List Entry) (script : ScriptText) → All IsSession entries → IsOrdered script → IsOrdered (with_entries script entries)
-ordered_all [] script sessions h = h
-ordered_all (entry ∷ entries) script sessions h =
-    ordered_all entries (with_entry script entry) (All-tail IsSession entry entries sessions) (ordered_more script entry (All-head IsSession entry entries sessions) h)
-
-no_lines : (session : ℕ) → program_of (replicate 16 []) session ≡ []
+pub no_lines : (session : ℕ) → program_of (replicate 16 []) session ≡ []
 no_lines session = elim (tested (nat_lt (session - 1) 16)) [
   | inl within ↦ get_or-replicate 16 (session - 1) [] [] (grind (arith, nat_tests))
   | inr beyond ↦ get_or_past (replicate 16 []) (session - 1) [] (grind (arith, nat_tests))
 ]
 
-nothing_ordered : IsOrdered (script_with (replicate 16 []) [])
-nothing_ordered = record { sixteen = refl; sessions = All-nil (λ session. 1 ≤ session); counted = λ session low. ap (λ (program : List Request). length program) (no_lines session) }
-
--- the session of a line that was read
-entry-session : (line : List ℕ) (entry : Entry) → entry_of line ≡ Read entry → IsSession entry
-entry-session line entry h =
-    let f = first_token-some session_of request_by 1 (tokens_of line) entry h in
-    let m = read_and-some (λ request. Read (f.a, request)) (request_of (column_after 1 f.token f.more) f.more) entry f.left in
-    subst IsSession (read_injective (f.a, m.0) entry m.2) (session-some f.token f.a f.spells)
+nothing_ordered : IsOrdered empty_script
+nothing_ordered = record {
+  sixteen = refl;
+  sessions = All-nil (λ session. 1 ≤ session);
+  counted = λ session low. ap (λ (program : List Request). length program) (no_lines session);
+  sweeps = λ session low. subst IsProgram (sym (no_lines session)) refl;
+}
 
 map-some : {A B : Type 0} (f : A → B) (o : Option A) (b : B) → option_map f o ≡ Some b → (a : A) × (o ≡ Some a) × (f a ≡ b)
 map-some f None b h = cc h
 map-some f (Some a) b h = (a, refl, some_injective (f a) b h)
 
-entries-sessions : (added : List (List ℕ)) (entries : List Entry) → all_of entry_in added ≡ Some entries → All IsSession entries
-entries-sessions [] entries h = subst (All IsSession) (some_injective [] entries h) (All-nil IsSession)
-entries-sessions (line ∷ added) entries h =
-    let first = and_then-some (λ b. option_map (λ bs. b ∷ bs) (all_of entry_in added)) (entry_in line) entries h in
-    let more = map-some (λ bs. first.0 ∷ bs) (all_of entry_in added) entries first.2 in
-    subst (All IsSession) more.2 (All-cons IsSession first.0 more.0 (entry-session line first.0 (value_of-some (entry_of line) first.0 first.1)) (entries-sessions added more.0 more.1))
+ordered_line : (script longer : ScriptText) (line : List ℕ) → with_line script line ≡ Some longer → IsOrdered script → IsOrdered longer
+ordered_line script longer line h ordered = elim (tested (is_request_line line)) [
+  | inl request ↦
+      let found = map-some (with_entry script) (value_of (entry_behind script.programs line)) longer (rw request at h) in
+      let read = entry-spelled script.programs line found.0 (value_of-some (entry_behind script.programs line) found.0 found.1) in
+      subst IsOrdered found.2 (ordered_more script found.0 read ordered)
+  | inr skipped ↦ subst IsOrdered (some_injective script longer (rw skipped at h)) ordered
+]
 
-order_of : {script : ScriptText} → IsOrdered script → IsOrderOf script.programs script.order
-order_of h = record { sessions = h.sessions; lines = h.counted }
+ordered_lines : (added : List (List ℕ)) (script longer : ScriptText) → with_lines script added ≡ Some longer → IsOrdered script → IsOrdered longer
+ordered_lines [] script longer h ordered = subst IsOrdered (some_injective script longer h) ordered
+ordered_lines (line ∷ added) script longer h ordered =
+    let first = and_then-some (λ next. with_lines next added) (with_line script line) longer h in
+    ordered_lines added first.0 longer first.2 (ordered_line script first.0 line first.1 ordered)
+
+-- a script that was read whole
+record IsReadWhole (script : ScriptText) : Type 0 where
+  ordered : IsOrdered script
+  finished : ends_in_sweep script.programs ≡ false
+
+read_whole : (text : List ℕ) (script : ScriptText) → script_of text ≡ Some script → IsReadWhole script
+read_whole text script h =
+    let read = and_then-some if_finished (with_lines empty_script (lines text)) script h in
+    let ordered = ordered_lines (lines text) empty_script read.0 read.1 nothing_ordered in
+    elim (tested (ends_in_sweep read.0.programs)) [
+      | inl unfinished ↦ let none = rw unfinished at read.2 in cc none
+      | inr closed ↦ subst IsReadWhole (some_injective read.0 script (rw closed at read.2)) (record { ordered = ordered; finished = closed })
+    ]
 
 pub script-ordered : (text : List ℕ) (script : ScriptText) → script_of text ≡ Some script → IsOrderOf script.programs script.order
 script-ordered text script h =
-    let read = map-some (with_entries (script_with (replicate 16 []) [])) (all_of entry_in (filter is_request_line (lines text))) script h in
-    let ordered = ordered_all read.0 (script_with (replicate 16 []) []) (entries-sessions (filter is_request_line (lines text)) read.0 read.1) nothing_ordered in
-    order_of (subst IsOrdered read.2 ordered)
+    let whole = read_whole text script h in
+    record { sessions = whole.ordered.sessions; lines = whole.ordered.counted }
+
+-- each session's clean-ups have their finish
+
+finished_within : (script : ScriptText) → IsReadWhole script → (s : ℕ) → 1 ≤ s → IsFinished (program_of script.programs s)
+finished_within script whole s low = elim (tested (nat_lt s 17)) [
+  | inl within ↦ record {
+    sweeps = whole.ordered.sweeps s low;
+    outside = none_in (λ session. is_in_sweep (program_of script.programs session)) 1 16 whole.finished s low (grind (arith, nat_tests, within));
+  }
+  | inr beyond ↦
+      let long : 17 ≤ s = grind (arith, nat_tests, beyond) in
+      let none : program_of script.programs s ≡ [] = get_or_past script.programs (s - 1) [] (omega (arith, whole.ordered.sixteen, long)) in
+      subst IsFinished (sym none) (record { sweeps = refl; outside = refl })
+]
+
+pub script-finished : (text : List ℕ) (script : ScriptText) → script_of text ≡ Some script → (s : ℕ) → IsFinished (program_of script.programs s)
+script-finished text script h zero = finished_within script (read_whole text script h) 1 (omega arith)
+script-finished text script h (suc s) = finished_within script (read_whole text script h) (suc s) (omega arith)

@@ -8,8 +8,8 @@ use Rattle.lo_base.specs.declared.column.Storage.TheVariants.{Plain, External, E
 use Rattle.lo_base.specs.declared.request.Request.TheVariants.{CreateTable, Insert, Update, Slice, Rewrite, Array, Set}
 use Rattle.lo_base.specs.declared.value.Literal.TheVariants.{Null, Number, Bytes, ArrayText, Variable}
 use Rattle.lo_script.specs.Reading.{Read, BadAt}
-use Rattle.lo_script.specs.Script.{entry_of}
 use Rattle.lo_script.specs.ValueToken.{column_with, change_with}
+use Rattle.lo_script.proofs.Examples.{entry_of}
 
 -- Columns
 

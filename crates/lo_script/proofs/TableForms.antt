@@ -47,9 +47,12 @@ values-finds table =
 insert-found : (t table : List ℕ) (tokens : TokenList) (r : Request) → PrintsName t table → FoundList (HasItems SpellsLiteral IsValue (λ values. 0 < length values)) (Insert table) tokens r → IsPrinted (codes "insert") (t ∷ tokens) r
 insert-found t table tokens r n f =
     rw (← f.is) (
-      (refl, (n.named, f.has.whole, all_weaker IsValue IsLiteral (λ a is. is.0) f.items f.has.each)),
-      all_weaker IsValue IsLiteralInRange (λ a is. is.1) f.items f.has.each,
-      record { rest = tokens; is = rw n.is refl; spell_rest = f.has.spelled },
+      refl,
+      (
+        (n.named, f.has.whole, all_weaker IsValue IsLiteral (λ a is. is.0) f.items f.has.each),
+        all_weaker IsValue IsLiteralInRange (λ a is. is.1) f.items f.has.each,
+        record { rest = tokens; is = rw n.is refl; spell_rest = f.has.spelled },
+      ),
     )
 
 insert-exact : Finds insert_of (IsPrinted (codes "insert"))
@@ -100,9 +103,12 @@ IsSpelledChange change = IsName change.column × IsLiteral change.value
 update-found : (t u table : List ℕ) (id : ℤ) (tokens : TokenList) (r : Request) → PrintsName t table → u ≡ signed_decimal id → IsInt8 id → FoundList (HasItems SpellsChange IsChange (HasNames changed_name)) (Update table id) tokens r → IsPrinted (codes "update") (t ∷ u ∷ tokens) r
 update-found t u table id tokens r n is-id small f =
     rw (← f.is) (
-      (refl, (n.named, (f.has.whole.0, all_weaker IsChange IsSpelledChange (λ a is. (is.0, is.1)) f.items f.has.each, f.has.whole.1))),
-      (small, all_weaker IsChange IsChangeInRange (λ a is. is.2) f.items f.has.each),
-      record { rest = tokens; is = rw (n.is, is-id) refl; spell_rest = f.has.spelled },
+      refl,
+      (
+        (n.named, (f.has.whole.0, all_weaker IsChange IsSpelledChange (λ a is. (is.0, is.1)) f.items f.has.each, f.has.whole.1)),
+        (small, all_weaker IsChange IsChangeInRange (λ a is. is.2) f.items f.has.each),
+        record { rest = tokens; is = rw (n.is, is-id) refl; spell_rest = f.has.spelled },
+      ),
     )
 
 update-exact : Finds update_of (IsPrinted (codes "update"))
@@ -133,7 +139,7 @@ storages-finds table =
 
 rewrite-found : (t table : List ℕ) (tokens : TokenList) (r : Request) → PrintsName t table → FoundList (HasItems SpellsStorage IsStorageColumn (HasNames column_name)) (Rewrite table) tokens r → IsPrinted (codes "rewrite") (t ∷ tokens) r
 rewrite-found t table tokens r n f =
-    rw (← f.is) ((refl, (n.named, (f.has.whole.0, f.has.each, f.has.whole.1))), tt, record { rest = tokens; is = rw n.is refl; spell_rest = f.has.spelled })
+    rw (← f.is) (refl, ((n.named, (f.has.whole.0, f.has.each, f.has.whole.1)), tt, record { rest = tokens; is = rw n.is refl; spell_rest = f.has.spelled }))
 
 rewrite-exact : Finds rewrite_of (IsPrinted (codes "rewrite"))
 rewrite-exact =
@@ -198,7 +204,7 @@ columns-finds table =
 
 create-found : (word t table : List ℕ) (tokens : TokenList) (r : Request) → word ≡ codes "table" → PrintsName t table → FoundList (HasItems SpellsColumn IsTableColumn IsTableColumns) (CreateTable table) tokens r → IsPrinted (codes "create") (word ∷ t ∷ tokens) r
 create-found word t table tokens r is n f =
-    rw (← f.is) ((refl, (n.named, f.has.whole)), tt, record { rest = tokens; is = rw (is, n.is) refl; spell_rest = f.has.spelled })
+    rw (← f.is) (refl, ((n.named, f.has.whole), tt, record { rest = tokens; is = rw (is, n.is) refl; spell_rest = f.has.spelled }))
 
 create-exact : Finds create_of (IsPrinted (codes "create"))
 create-exact =
@@ -242,39 +248,39 @@ create_of-spelled column table rest columns named spelled are =
 delete-exact : Finds (two_tokens name_of int8_of Delete) (IsPrinted (codes "delete"))
 delete-exact =
     two_tokens-finds (IsPrinted (codes "delete")) name_of int8_of Delete
-    (λ t u a b is-t is-u. let p = name_of-prints t a is-t in let q = int8_of-prints u b is-u in ((refl, p.named), q.small, plainly refl (rw (p.is, q.is) refl)))
+    (λ t u a b is-t is-u. let p = name_of-prints t a is-t in let q = int8_of-prints u b is-u in (refl, (p.named, q.small, plainly refl (rw (p.is, q.is) refl))))
 
 get-exact : Finds (two_tokens name_of int8_of Get) (IsPrinted (codes "get"))
 get-exact =
     two_tokens-finds (IsPrinted (codes "get")) name_of int8_of Get
-    (λ t u a b is-t is-u. let p = name_of-prints t a is-t in let q = int8_of-prints u b is-u in ((refl, p.named), q.small, plainly refl (rw (p.is, q.is) refl)))
+    (λ t u a b is-t is-u. let p = name_of-prints t a is-t in let q = int8_of-prints u b is-u in (refl, (p.named, q.small, plainly refl (rw (p.is, q.is) refl))))
 
 ids-exact : Finds (one_token name_of Ids) (IsPrinted (codes "ids"))
 ids-exact =
     one_token-finds (IsPrinted (codes "ids")) name_of Ids
-    (λ t a is-t. let p = name_of-prints t a is-t in ((refl, p.named), tt, plainly refl (rw p.is refl)))
+    (λ t a is-t. let p = name_of-prints t a is-t in (refl, (p.named, tt, plainly refl (rw p.is refl))))
 
 slice-exact : Finds slice_of (IsPrinted (codes "slice"))
 slice-exact =
     first_token-finds (IsPrinted (codes "slice")) name_of (λ table. four_tokens int8_of name_of int8_of int8_of (Slice table))
     (λ s table is. let n = name_of-prints s table is in
     four_tokens-finds (λ more. IsPrinted (codes "slice") (s ∷ more)) int8_of name_of int8_of int8_of (Slice table)
-    (λ t u v w a b c d is-t is-u is-v is-w. let p = int8_of-prints t a is-t in let q = name_of-prints u b is-u in let r = int8_of-prints v c is-v in let o = int8_of-prints w d is-w in ((refl, (n.named, q.named)), (p.small, r.small, o.small), plainly refl (rw (n.is, p.is, q.is, r.is, o.is) refl))))
+    (λ t u v w a b c d is-t is-u is-v is-w. let p = int8_of-prints t a is-t in let q = name_of-prints u b is-u in let r = int8_of-prints v c is-v in let o = int8_of-prints w d is-w in (refl, ((n.named, q.named), (p.small, r.small, o.small), plainly refl (rw (n.is, p.is, q.is, r.is, o.is) refl)))))
 
 declare-exact : Finds (three_tokens name_of name_of int8_of Declare) (IsPrinted (codes "declare"))
 declare-exact =
     three_tokens-finds (IsPrinted (codes "declare")) name_of name_of int8_of Declare
-    (λ t u v a b c is-t is-u is-v. let p = name_of-prints t a is-t in let q = name_of-prints u b is-u in let r = int8_of-prints v c is-v in ((refl, (p.named, q.named)), r.small, plainly refl (rw (p.is, q.is, r.is) refl)))
+    (λ t u v a b c is-t is-u is-v. let p = name_of-prints t a is-t in let q = name_of-prints u b is-u in let r = int8_of-prints v c is-v in (refl, ((p.named, q.named), r.small, plainly refl (rw (p.is, q.is, r.is) refl))))
 
 fetch-exact : Finds (four_tokens name_of name_of int8_of int8_of Fetch) (IsPrinted (codes "fetch"))
 fetch-exact =
     four_tokens-finds (IsPrinted (codes "fetch")) name_of name_of int8_of int8_of Fetch
-    (λ t u v w a b c d is-t is-u is-v is-w. let p = name_of-prints t a is-t in let q = name_of-prints u b is-u in let r = int8_of-prints v c is-v in let s = int8_of-prints w d is-w in ((refl, (p.named, q.named)), (r.small, s.small), plainly refl (rw (p.is, q.is, r.is, s.is) refl)))
+    (λ t u v w a b c d is-t is-u is-v is-w. let p = name_of-prints t a is-t in let q = name_of-prints u b is-u in let r = int8_of-prints v c is-v in let s = int8_of-prints w d is-w in (refl, ((p.named, q.named), (r.small, s.small), plainly refl (rw (p.is, q.is, r.is, s.is) refl))))
 
 close-exact : Finds (one_token name_of Close) (IsPrinted (codes "close"))
 close-exact =
     one_token-finds (IsPrinted (codes "close")) name_of Close
-    (λ t a is-t. let p = name_of-prints t a is-t in ((refl, p.named), tt, plainly refl (rw p.is refl)))
+    (λ t a is-t. let p = name_of-prints t a is-t in (refl, (p.named, tt, plainly refl (rw p.is refl))))
 
 pub tables-exact : AllByRecursion IsExact table_forms
 tables-exact = create-exact also insert-exact also update-exact also delete-exact also get-exact also ids-exact also slice-exact also declare-exact also fetch-exact also close-exact also rewrite-exact also arrays-exact

@@ -1,15 +1,16 @@
 -- The tokens of a request hold no space and no line feed. So, joined by spaces, they make a line that is cut into them again.
-use Rattle.std.proofs.Common.{◌≡◌, ◌≢◌, ℕ, ℤ, pos, negsuc, zero, suc, ◌+◌, ◌/◌, ◌%◌, ◌==◌, ◌&&◌, ◌≤◌, ◌<◌, not, true, false, Bool, List, [], ◌∷◌, ◌++◌, length, refl, sym, ap, ◌∙◌, Some, None, inl, inr, arith}
-use Rattle.std.specs.Prelude.{Option, Ok, ◌||◌, bytes_eq, codes, nat_lt, replicate, All}
+use Rattle.std.proofs.Common.{◌≡◌, ◌≢◌, ℕ, ℤ, pos, negsuc, zero, suc, ◌+◌, ◌-◌, ◌/◌, ◌%◌, ◌==◌, ◌&&◌, ◌≤◌, ◌<◌, not, true, false, Bool, List, [], ◌∷◌, ◌++◌, length, refl, sym, ap, ◌∙◌, Some, None, inl, inr, arith, append-nil, append_assoc, length-append, length-set}
+use Rattle.std.specs.Prelude.{Option, Ok, ◌||◌, bytes_eq, codes, nat_lt, All}
 use Rattle.std.specs.Fmt.{decimal, signed_decimal, digits, digits_onto, digit_glyph}
 use Rattle.std.specs.List.{AllByRecursion, find, list_all, list_any, range_with_len}
-use Rattle.std.specs.Str.Lines.{lines}
-use Rattle.std.proofs.lemmas.Bool.{false≢true}
+use Rattle.std.specs.Str.Lines.{lines, strip_carriage_return}
+use Rattle.std.proofs.lemmas.Bool.{cases_eq, false≢true}
 use Rattle.std.proofs.lemmas.Bool.Decides.{nat_tests}
 use Rattle.std.proofs.lemmas.List.Elements.{All-nil, All-cons}
 use Rattle.std.proofs.lemmas.List.Splits.{slice_split_at, slice_split_none}
 use Rattle.std.proofs.lemmas.List.Sums.{list_all-from_AllPass}
 use Rattle.std.proofs.lemmas.Slice.Eq.{bytes_eq-Decides}
+use Rattle.std.proofs.Math.Seq.{get_or-append_seam, take-append_seam}
 use Rattle.hex.specs.Hex.{decode_of, is_hex_digit}
 use Rattle.hex.proofs.HexLemmas.{decode_of-ok}
 use Rattle.lo_base.specs.Name.{IsName, continues_name}
@@ -20,21 +21,25 @@ use Rattle.lo_base.specs.declared.column.Storage.{Storage}
 use Rattle.lo_base.specs.declared.column.Storage.TheVariants.{Plain}
 use Rattle.lo_base.specs.declared.request.Assign.{Assign}
 use Rattle.lo_base.specs.declared.request.Request.{Request}
-use Rattle.lo_base.specs.declared.request.Request.TheVariants.{Begin, Commit, Rollback, Savepoint, Release, RollbackTo, LoCreat, LoCreate, LoOpen, LoClose, LoRead, LoWrite, LoLseek, LoLseek64, LoTell, LoTell64, LoTruncate, LoTruncate64, LoUnlink, LoGet, LoPut, LoFromBytea, CreateTable, Insert, Update, Delete, Get, Ids, Slice, Declare, Fetch, Close, Rewrite, Vacuum, Array, Load, Set, Elem, Show}
+use Rattle.lo_base.specs.declared.request.Request.TheVariants.{Begin, Commit, Rollback, Savepoint, Release, RollbackTo, LoCreat, LoCreate, LoOpen, LoClose, LoRead, LoWrite, LoLseek, LoLseek64, LoTell, LoTell64, LoTruncate, LoTruncate64, LoUnlink, LoGet, LoPut, LoFromBytea, CreateTable, Insert, Update, Delete, Get, Ids, Slice, Declare, Fetch, Close, Rewrite, Vacuum, Array, Load, Set, Elem, Show, Vacuumlo, Step, Finish}
 use Rattle.lo_base.specs.declared.value.Literal.{Literal}
 use Rattle.lo_base.specs.declared.value.Literal.TheVariants.{Null, Number, Bytes, ArrayText, Variable}
-use Rattle.lo_machine.specs.Served.{IsServed}
+use Rattle.lo_machine.specs.Program.{has_sweeps, program_of}
 use Rattle.lo_machine.specs.Spelled.{IsLiteral}
 use Rattle.lo_script.specs.Form.{request_of}
 use Rattle.lo_script.specs.Reading.{Read}
-use Rattle.lo_script.specs.Script.{HasText, is_request_line, entry_of, script_of, with_entry, script_with}
+use Rattle.lo_script.specs.Script.{HasText, IsFinished, ScriptText, empty_script, entries_by, entry_behind, is_request_line, with_entries, with_entry, with_line, with_lines}
 use Rattle.lo_script.specs.SpelledValues.{SpellAll, SpellsBytes, SpellsLiteral, SpellsChange, SpellsStorage, SpellsKind, SpellsWithStorage, SpellsColumn, element_text, storage_text}
-use Rattle.lo_script.specs.Spelling.{HasRanges, SpellsServed}
+use Rattle.lo_script.specs.Spelling.{IsWritable, SpellsServed}
+use Rattle.lo_script.specs.SweepForm.{is_in_sweep, is_of_sweep, leaves_open}
 use Rattle.lo_script.specs.Token.{TokenList, column_after, mark_of, session_of, tokens_of}
 use Rattle.lo_script.specs.ValueToken.{ends_token}
+use Rattle.lo_script.proofs.CutTexts.{first_of_lines}
 use Rattle.lo_script.proofs.DecimalsAndBytes.{tested}
 use Rattle.lo_script.proofs.ReadLists.{one_token_of}
+use Rattle.lo_script.proofs.ScriptOrder.{grows_at, kept_elsewhere, no_lines}
 use Rattle.lo_script.proofs.SpelledRequests.{has_spelling, request-some}
+use Rattle.lo_script.proofs.SweepLines.{in_sweep-push, none_passes, sweeps-first, sweeps-rest}
 use Rattle.lo_script.proofs.ValueTokens.{and-both, not-true}
 
 abbrev IsWhole : List ℕ → Type 0
@@ -198,10 +203,10 @@ tokens-whole : (r : Request) (tokens : TokenList) → SpellsServed r tokens → 
 tokens-whole Begin tokens h = rw (h.2.is, h.2.spell_rest) (by_test (codes "begin") refl, tt)
 tokens-whole Commit tokens h = rw (h.2.is, h.2.spell_rest) (by_test (codes "commit") refl, tt)
 tokens-whole Rollback tokens h = rw (h.2.is, h.2.spell_rest) (by_test (codes "rollback") refl, tt)
-tokens-whole (Savepoint name) tokens h = rw (h.2.is, h.2.spell_rest) (by_test (codes "savepoint") refl, (name-whole name h.0.1, tt))
-tokens-whole (Release name) tokens h = rw (h.2.is, h.2.spell_rest) (by_test (codes "release") refl, (name-whole name h.0.1, tt))
+tokens-whole (Savepoint name) tokens h = rw (h.2.is, h.2.spell_rest) (by_test (codes "savepoint") refl, (name-whole name h.0, tt))
+tokens-whole (Release name) tokens h = rw (h.2.is, h.2.spell_rest) (by_test (codes "release") refl, (name-whole name h.0, tt))
 tokens-whole (RollbackTo name) tokens h =
-    rw (h.2.is, h.2.spell_rest) (by_test (codes "rollback") refl, (by_test (codes "to") refl, (name-whole name h.0.1, tt)))
+    rw (h.2.is, h.2.spell_rest) (by_test (codes "rollback") refl, (by_test (codes "to") refl, (name-whole name h.0, tt)))
 tokens-whole Vacuum tokens h = rw (h.2.is, h.2.spell_rest) (by_test (codes "vacuum") refl, tt)
 tokens-whole (LoCreat mode) tokens h = rw (h.2.is, h.2.spell_rest) (by_test (codes "lo_creat") refl, (signed-whole mode, tt))
 tokens-whole (LoCreate oid) tokens h = rw (h.2.is, h.2.spell_rest) (by_test (codes "lo_create") refl, (decimal-whole oid, tt))
@@ -236,24 +241,24 @@ tokens-whole (CreateTable name columns) tokens h =
       (
         by_test (codes "table") refl,
         (
-          name-whole name h.0.1.0,
-          items-whole SpellsColumn (λ (c : Column). IsName c.name) column-whole h.2.rest columns h.2.spell_rest h.0.1.1.named,
+          name-whole name h.0.0,
+          items-whole SpellsColumn (λ (c : Column). IsName c.name) column-whole h.2.rest columns h.2.spell_rest h.0.1.named,
         ),
       ),
     )
 tokens-whole (Insert table values) tokens h =
     rw h.2.is (
       by_test (codes "insert") refl,
-      (name-whole table h.0.1.0, items-whole SpellsLiteral IsLiteral literal-whole h.2.rest values h.2.spell_rest h.0.1.2),
+      (name-whole table h.0.0, items-whole SpellsLiteral IsLiteral literal-whole h.2.rest values h.2.spell_rest h.0.2),
     )
 tokens-whole (Update table id changes) tokens h =
     rw h.2.is (
       by_test (codes "update") refl,
       (
-        name-whole table h.0.1.0,
+        name-whole table h.0.0,
         (
           signed-whole id,
-          items-whole SpellsChange (λ (a : Assign). IsName a.column × IsLiteral a.value) change-whole h.2.rest changes h.2.spell_rest h.0.1.1.1,
+          items-whole SpellsChange (λ (a : Assign). IsName a.column × IsLiteral a.value) change-whole h.2.rest changes h.2.spell_rest h.0.1.1,
         ),
       ),
     )
@@ -261,44 +266,49 @@ tokens-whole (Rewrite table storages) tokens h =
     rw h.2.is (
       by_test (codes "rewrite") refl,
       (
-        name-whole table h.0.1.0,
-        items-whole SpellsStorage (λ (c : Column). IsName c.name × (c.kind ≡ types.Bytea)) storage_column-whole h.2.rest storages h.2.spell_rest h.0.1.1.1,
+        name-whole table h.0.0,
+        items-whole SpellsStorage (λ (c : Column). IsName c.name × (c.kind ≡ types.Bytea)) storage_column-whole h.2.rest storages h.2.spell_rest h.0.1.1,
       ),
     )
 tokens-whole (Delete table id) tokens h =
-    rw (h.2.is, h.2.spell_rest) (by_test (codes "delete") refl, (name-whole table h.0.1, (signed-whole id, tt)))
+    rw (h.2.is, h.2.spell_rest) (by_test (codes "delete") refl, (name-whole table h.0, (signed-whole id, tt)))
 tokens-whole (Get table id) tokens h =
-    rw (h.2.is, h.2.spell_rest) (by_test (codes "get") refl, (name-whole table h.0.1, (signed-whole id, tt)))
-tokens-whole (Ids table) tokens h = rw (h.2.is, h.2.spell_rest) (by_test (codes "ids") refl, (name-whole table h.0.1, tt))
+    rw (h.2.is, h.2.spell_rest) (by_test (codes "get") refl, (name-whole table h.0, (signed-whole id, tt)))
+tokens-whole (Ids table) tokens h = rw (h.2.is, h.2.spell_rest) (by_test (codes "ids") refl, (name-whole table h.0, tt))
 tokens-whole (Slice table id column from count) tokens h =
     rw (h.2.is, h.2.spell_rest) (
       by_test (codes "slice") refl,
-      (name-whole table h.0.1.0, (signed-whole id, (name-whole column h.0.1.1, (signed-whole from, (signed-whole count, tt))))),
+      (name-whole table h.0.0, (signed-whole id, (name-whole column h.0.1, (signed-whole from, (signed-whole count, tt))))),
     )
 tokens-whole (Declare cursor table id) tokens h =
     rw (h.2.is, h.2.spell_rest) (
       by_test (codes "declare") refl,
-      (name-whole cursor h.0.1.0, (name-whole table h.0.1.1, (signed-whole id, tt))),
+      (name-whole cursor h.0.0, (name-whole table h.0.1, (signed-whole id, tt))),
     )
 tokens-whole (Fetch cursor column from count) tokens h =
     rw (h.2.is, h.2.spell_rest) (
       by_test (codes "fetch") refl,
-      (name-whole cursor h.0.1.0, (name-whole column h.0.1.1, (signed-whole from, (signed-whole count, tt)))),
+      (name-whole cursor h.0.0, (name-whole column h.0.1, (signed-whole from, (signed-whole count, tt)))),
     )
-tokens-whole (Close cursor) tokens h = rw (h.2.is, h.2.spell_rest) (by_test (codes "close") refl, (name-whole cursor h.0.1, tt))
+tokens-whole (Close cursor) tokens h = rw (h.2.is, h.2.spell_rest) (by_test (codes "close") refl, (name-whole cursor h.0, tt))
 tokens-whole (Array name text) tokens h =
-    rw (h.2.is, h.2.spell_rest) (by_test (codes "array") refl, (name-whole name h.0.1.0, (text-whole text h.0.1.1.1, tt)))
+    rw (h.2.is, h.2.spell_rest) (by_test (codes "array") refl, (name-whole name h.0.0, (text-whole text h.0.1.1, tt)))
 tokens-whole (Load name table id column) tokens h =
     rw (h.2.is, h.2.spell_rest) (
       by_test (codes "load") refl,
-      (name-whole name h.0.1.0, (name-whole table h.0.1.1, (signed-whole id, (name-whole column h.0.1.2, tt)))),
+      (name-whole name h.0.0, (name-whole table h.0.1, (signed-whole id, (name-whole column h.0.2, tt)))),
     )
 tokens-whole (Set name sub element) tokens h =
-    rw (h.2.is, h.2.spell_rest) (by_test (codes "set") refl, (name-whole name h.0.1, (signed-whole sub, (element-whole element, tt))))
+    rw (h.2.is, h.2.spell_rest) (by_test (codes "set") refl, (name-whole name h.0, (signed-whole sub, (element-whole element, tt))))
 tokens-whole (Elem name sub) tokens h =
-    rw (h.2.is, h.2.spell_rest) (by_test (codes "elem") refl, (name-whole name h.0.1, (signed-whole sub, tt)))
-tokens-whole (Show name) tokens h = rw (h.2.is, h.2.spell_rest) (by_test (codes "show") refl, (name-whole name h.0.1, tt))
-tokens-whole other tokens h = absurd (false≢true h.0.0)
+    rw (h.2.is, h.2.spell_rest) (by_test (codes "elem") refl, (name-whole name h.0, (signed-whole sub, tt)))
+tokens-whole (Show name) tokens h = rw (h.2.is, h.2.spell_rest) (by_test (codes "show") refl, (name-whole name h.0, tt))
+tokens-whole (Vacuumlo true limit) tokens h =
+    rw (h.2.is, h.2.spell_rest) (by_test (codes "vacuumlo") refl, (by_test (codes "-n") refl, (decimal-whole limit, tt)))
+tokens-whole (Vacuumlo false limit) tokens h =
+    rw (h.2.is, h.2.spell_rest) (by_test (codes "vacuumlo") refl, (decimal-whole limit, tt))
+tokens-whole Step tokens h = rw (h.2.is, h.2.spell_rest) (by_test (codes "step") refl, tt)
+tokens-whole Finish tokens h = rw (h.2.is, h.2.spell_rest) (by_test (codes "finish") refl, tt)
 
 -- Lines: tokens joined by spaces
 
@@ -337,12 +347,6 @@ as_all : (text : List ℕ) → HasNoFeed text → All (λ b. (b == 10) ≡ false
 as_all [] h = All-nil (λ b. (b == 10) ≡ false)
 as_all (b ∷ text) h = All-cons (λ b. (b == 10) ≡ false) b text h.0 (as_all text h.1)
 
--- a text without line feeds is one line
-one_line : (b : ℕ) (text : List ℕ) → HasNoFeed (b ∷ text) → lines (b ∷ text) ≡ (b ∷ text) ∷ []
-one_line b text h =
-    let some : (length (b ∷ text) == 0) ≡ false = grind (arith, nat_tests) in
-    rw (slice_split_none (λ c. c == 10) (b ∷ text) (as_all (b ∷ text) h), some) refl
-
 -- marks
 
 abbrev first_of : List ℕ → ℕ
@@ -373,14 +377,10 @@ mark-whole s = (visible (s + 64) (omega arith), by_test (codes ":") refl)
 abbrev line_of : (s : ℕ) → TokenList → List ℕ
 line_of s tokens = joined (mark_of s ∷ tokens)
 
-entry_read : (s : ℕ) (tokens : TokenList) (r : Request) → 1 ≤ s → s ≤ 16 → AreWhole tokens → ((column : ℕ) → request_of column tokens ≡ Read r) → entry_of (line_of s tokens) ≡ Read (s, r)
-entry_read s tokens r low high whole spelled =
+entry_read : (programs : List (List Request)) (s : ℕ) (tokens : TokenList) (r : Request) → 1 ≤ s → s ≤ 16 → AreWhole tokens → ((column : ℕ) → request_of (is_in_sweep (program_of programs s)) column tokens ≡ Read r)
+    → entry_behind programs (line_of s tokens) ≡ Read (s, r)
+entry_read programs s tokens r low high whole spelled =
     rw (cut_joined (mark_of s) tokens (mark-whole s, whole), mark_read s low high, spelled (column_after 1 (mark_of s) tokens)) refl
-
-line_alone : (s : ℕ) (tokens : TokenList) → AreWhole tokens → lines (line_of s tokens) ≡ line_of s tokens ∷ []
-line_alone s [] h = one_line (s + 64) (codes ":") (no_feed_joined (mark_of s ∷ []) (mark-whole s, tt))
-line_alone s (u ∷ tokens) h =
-    one_line (s + 64) (codes ":" ++ 32 ∷ joined (u ∷ tokens)) (no_feed_joined (mark_of s ∷ u ∷ tokens) (mark-whole s, h))
 
 no_comment : (s : ℕ) → not ((s + 64) == 35) ≡ true
 no_comment s = let other : ((s + 64) == 35) ≡ false = grind (arith, nat_tests) in rw other refl
@@ -389,12 +389,105 @@ line_counts : (s : ℕ) (tokens : TokenList) → is_request_line (line_of s toke
 line_counts s [] = no_comment s
 line_counts s (u ∷ tokens) = no_comment s
 
-line_read : (s : ℕ) (tokens : TokenList) (r : Request) → 1 ≤ s → s ≤ 16 → AreWhole tokens → ((column : ℕ) → request_of column tokens ≡ Read r) → script_of (line_of s tokens) ≡ Some (with_entry (script_with (replicate 16 []) []) (s, r))
-line_read s tokens r low high whole spelled =
-    rw (line_alone s tokens whole, line_counts s tokens, entry_read s tokens r low high whole spelled) refl
+line_read : (script : ScriptText) (s : ℕ) (tokens : TokenList) (r : Request) → 1 ≤ s → s ≤ 16 → AreWhole tokens → ((column : ℕ) → request_of (is_in_sweep (program_of script.programs s)) column tokens ≡ Read r)
+    → with_line script (line_of s tokens) ≡ Some (with_entry script (s, r))
+line_read script s tokens r low high whole spelled =
+    rw (line_counts s tokens, entry_read script.programs s tokens r low high whole spelled) refl
 
-pub has_text : (s : ℕ) (r : Request) → 1 ≤ s → s ≤ 16 → IsServed r → HasRanges r → HasText s r
-has_text s r low high served ranges =
-    let spelling = has_spelling r served ranges in
-    let whole = tokens-whole r spelling.tokens (request-some 1 spelling.tokens r (spelling.spelled 1)) in
-    record { text = line_of s spelling.tokens; spelled = line_read s spelling.tokens r low high whole spelling.spelled }
+-- The tokens of each request of a program, where it may stand
+
+record Written (r : Request) : Type 0 where
+  tokens : TokenList
+  whole : AreWhole tokens
+  spelled : (column : ℕ) → request_of (is_of_sweep r) column tokens ≡ Read r
+
+written : (r : Request) → IsWritable r → Written r
+written r writable =
+    let spelling = has_spelling r writable.0 writable.1 in
+    record {
+      tokens = spelling.tokens;
+      whole = tokens-whole r spelling.tokens (request-some (is_of_sweep r) 1 spelling.tokens r (spelling.spelled 1)).1;
+      spelled = spelling.spelled;
+    }
+
+abbrev lines_of : (s : ℕ) (program : List Request) → AllByRecursion IsWritable program → List (List ℕ)
+lines_of s [] writable = []
+lines_of s (r ∷ program) writable = line_of s (written r writable.0).tokens ∷ lines_of s program writable.1
+
+lines_of-no_feed : (s : ℕ) (program : List Request) (writable : AllByRecursion IsWritable program) → AllByRecursion HasNoFeed (lines_of s program writable)
+lines_of-no_feed s [] writable = tt
+lines_of-no_feed s (r ∷ program) writable =
+    let w = written r writable.0 in
+    (no_feed_joined (mark_of s ∷ w.tokens) (mark-whole s, w.whole), lines_of-no_feed s program writable.1)
+
+lines_of-read : (script : ScriptText) (s : ℕ) (program : List Request) (writable : AllByRecursion IsWritable program) → 1 ≤ s → s ≤ 16 → s ≤ length script.programs → has_sweeps (is_in_sweep (program_of script.programs s)) program ≡ true
+    → with_lines script (lines_of s program writable) ≡ Some (with_entries script (entries_by s program))
+lines_of-read script s [] writable low high there sweeps = refl
+lines_of-read script s (r ∷ program) writable low high there sweeps =
+    let in_sweep = is_in_sweep (program_of script.programs s) in
+    let w = written r writable.0 in
+    let stands : is_of_sweep r ≡ in_sweep = sweeps-first in_sweep r program sweeps in
+    let read = line_read script s w.tokens r low high w.whole (λ column. rw (← stands) (w.spelled column)) in
+    let longer = with_entry script (s, r) in
+    let grown : program_of longer.programs s ≡ program_of script.programs s ++ r ∷ [] = grows_at script.programs s r low there in
+    let stays : is_in_sweep (program_of longer.programs s) ≡ leaves_open r = ap is_in_sweep grown ∙ in_sweep-push false (program_of script.programs s) r in
+    let more = lines_of-read longer s program writable.1 low high (rw length-set there) (ap (λ b. has_sweeps b program) stays ∙ sweeps-rest in_sweep r program sweeps) in
+    rw read more
+
+-- Lines that end with a carriage return and a line feed are those lines again
+
+abbrev text_of : List (List ℕ) → List ℕ
+text_of [] = []
+text_of (line ∷ lines) = (line ++ 13 ∷ []) ++ 10 ∷ text_of lines
+
+no_feed_push : (line : List ℕ) → HasNoFeed line → HasNoFeed (line ++ 13 ∷ [])
+no_feed_push [] h = (refl, tt)
+no_feed_push (b ∷ line) h = (h.0, no_feed_push line h.1)
+
+return_dropped : (line : List ℕ) → strip_carriage_return (line ++ 13 ∷ []) ≡ line
+return_dropped line =
+    let len : length (line ++ 13 ∷ []) - 1 ≡ length line = let l = length-append line (13 ∷ []) in omega (arith, l) in
+    rw (len, get_or-append_seam line 13 [] 0) (take-append_seam line (13 ∷ []))
+
+text_of-lines : (ls : List (List ℕ)) → AllByRecursion HasNoFeed ls → lines (text_of ls) ≡ ls
+text_of-lines [] h = refl
+text_of-lines (line ∷ ls) h =
+    let cut = slice_split_at (λ b. b == 10) (line ++ 13 ∷ []) 10 (text_of ls) (as_all (line ++ 13 ∷ []) (no_feed_push line h.0)) refl in
+    first_of_lines (text_of (line ∷ ls)) (line ++ 13 ∷ []) (text_of ls) cut
+    ∙ ap (λ (l : List ℕ). l ∷ lines (text_of ls)) (return_dropped line)
+    ∙ ap (λ (rest : List (List ℕ)). line ∷ rest) (text_of-lines ls h.1)
+
+-- the programs that such lines make
+
+grown_by : (program : List Request) (script : ScriptText) (s : ℕ) → 1 ≤ s → s ≤ length script.programs
+    → program_of (with_entries script (entries_by s program)).programs s ≡ program_of script.programs s ++ program
+grown_by [] script s low there = sym (append-nil (program_of script.programs s))
+grown_by (r ∷ program) script s low there =
+    grown_by program (with_entry script (s, r)) s low (rw length-set there)
+    ∙ ap (λ (lines : List Request). lines ++ program) (grows_at script.programs s r low there)
+    ∙ append_assoc (program_of script.programs s) (r ∷ []) program
+
+others_kept : (program : List Request) (script : ScriptText) (s t : ℕ) → 1 ≤ s → 1 ≤ t → s ≢ t
+    → program_of (with_entries script (entries_by s program)).programs t ≡ program_of script.programs t
+others_kept [] script s t low-s low-t other = refl
+others_kept (r ∷ program) script s t low-s low-t other =
+    others_kept program (with_entry script (s, r)) s t low-s low-t other ∙ kept_elsewhere script.programs s t r low-s low-t other
+
+outside_all : (s : ℕ) (program : List Request) → 1 ≤ s → s ≤ 16 → is_in_sweep program ≡ false → (t : ℕ) → 1 ≤ t
+    → is_in_sweep (program_of (with_entries empty_script (entries_by s program)).programs t) ≡ false
+outside_all s program low high outside t low-t = elim (cases_eq s t) [
+  | inl same ↦
+      let whole : program_of (with_entries empty_script (entries_by s program)).programs s ≡ program =
+      grown_by program empty_script s low high ∙ ap (λ (lines : List Request). lines ++ program) (no_lines s) in
+      rw (← same) (ap is_in_sweep whole ∙ outside)
+  | inr other ↦ ap is_in_sweep (others_kept program empty_script s t low low-t other ∙ no_lines t)
+]
+
+pub has_text : (s : ℕ) (program : List Request) → 1 ≤ s → s ≤ 16 → AllByRecursion IsWritable program → IsFinished program → HasText s program
+has_text s program low high writable finished =
+    let ls = lines_of s program writable in
+    let split : lines (text_of ls) ≡ ls = text_of-lines ls (lines_of-no_feed s program writable) in
+    let start : has_sweeps (is_in_sweep (program_of empty_script.programs s)) program ≡ true = rw (no_lines s) finished.sweeps in
+    let read = lines_of-read empty_script s program writable low high high start in
+    let outside = none_passes (λ t. is_in_sweep (program_of (with_entries empty_script (entries_by s program)).programs t)) 1 16 (outside_all s program low high finished.outside) in
+    record { text = text_of ls; spelled = rw (split, read, outside) refl }

@@ -1,10 +1,11 @@
 -- The forms of requests: a word, and tokens that spell the arguments.
-use Rattle.std.specs.Prelude.{ℕ, pos, List, [], ◌∷◌, Some, None, if◌then◌else◌, codes, bytes_eq}
+use Rattle.std.specs.Prelude.{ℕ, pos, Bool, true, false, List, [], ◌∷◌, Some, None, if◌then◌else◌, codes, bytes_eq}
 use Rattle.lo_base.specs.declared.request.Request.{Request}
 use Rattle.lo_base.specs.declared.request.Request.TheVariants.{Begin, Commit, Rollback, Savepoint, Release, RollbackTo, LoCreat, LoCreate, LoOpen, LoClose, LoRead, LoWrite, LoLseek, LoLseek64, LoTell, LoTell64, LoTruncate, LoTruncate64, LoUnlink, LoGet, LoPut, LoFromBytea, Vacuum}
 use Rattle.lo_machine.specs.Spelled.{bytes_limit}
 use Rattle.lo_script.specs.Reader.{Reader, Form, form, first_token, no_token, one_token, two_tokens, three_tokens, none_or}
 use Rattle.lo_script.specs.Reading.{BadAt}
+use Rattle.lo_script.specs.SweepForm.{sweep_forms, vacuumlo_of}
 use Rattle.lo_script.specs.TableForm.{table_forms}
 use Rattle.lo_script.specs.Token.{column_after, oid_of, int4_of, int8_of, bytes_of, name_of, keyword_of, begins}
 
@@ -42,7 +43,7 @@ large_object_forms =
     ∷ form (codes "lo_from_bytea") (two_tokens oid_of (bytes_of bytes_limit) LoFromBytea)
     ∷ descriptor_forms
 
--- the other forms: those of transactions, and then those of tables and of array variables
+-- the other forms: those of transactions, the beginning of a clean-up, and then those of tables and of array variables
 abbrev pub other_forms : List Form
 other_forms =
     form (codes "begin") (no_token Begin)
@@ -51,17 +52,19 @@ other_forms =
     ∷ form (codes "savepoint") (one_token name_of Savepoint)
     ∷ form (codes "release") (one_token name_of Release)
     ∷ form (codes "vacuum") (no_token Vacuum)
+    ∷ form (codes "vacuumlo") vacuumlo_of
     ∷ table_forms
 
--- the forms among which a word is looked for
-abbrev pub forms_of : (word : List ℕ) → List Form
-forms_of word = if begins (codes "lo_") word then large_object_forms else other_forms
+-- the forms among which a word is looked for: inside a clean-up those of its lines alone, which stand nowhere else
+abbrev pub forms_of : (in_sweep : Bool) → (word : List ℕ) → List Form
+forms_of true word = sweep_forms
+forms_of false word = if begins (codes "lo_") word then large_object_forms else other_forms
 
 -- what the form with that word reads, if it is one of these. The word begins at `start`, the arguments after it at `column`
 abbrev pub form_in : List Form → (word : List ℕ) → (start : ℕ) → Reader Request
 form_in [] word start column arguments = BadAt start
 form_in (f ∷ more) word start column arguments = if bytes_eq word f.word then f.request column arguments else form_in more word start column arguments
 
-abbrev pub request_of : Reader Request
-request_of start [] = BadAt start
-request_of start (word ∷ arguments) = form_in (forms_of word) word start (column_after start word arguments) arguments
+abbrev pub request_of : (in_sweep : Bool) → Reader Request
+request_of in_sweep start [] = BadAt start
+request_of in_sweep start (word ∷ arguments) = form_in (forms_of in_sweep word) word start (column_after start word arguments) arguments

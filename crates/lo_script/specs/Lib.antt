@@ -7,6 +7,7 @@ pub mod ReplyText
 pub mod Script
 pub mod SpelledValues
 pub mod Spelling
+pub mod SweepForm
 pub mod TableForm
 pub mod Token
 pub mod ValueToken

@@ -1,5 +1,5 @@
 -- What a form is made of: readers of tokens, one after the other.
-use Rattle.std.specs.Prelude.{ℕ, List, [], ◌∷◌, ◌++◌, Option}
+use Rattle.std.specs.Prelude.{ℕ, List, [], ◌∷◌, ◌++◌, Option, if◌then◌else◌, bytes_eq}
 use Rattle.lo_base.specs.declared.request.Request.{Request}
 use Rattle.lo_script.specs.Reading.{Reading, Read, BadAt, read_at, read_and}
 use Rattle.lo_script.specs.Token.{TokenList, column_after}
@@ -37,6 +37,12 @@ four_tokens first second third fourth make = first_token first (λ a. three_toke
 abbrev pub none_or : {R : Type 0} → R → (others : Reader R) → Reader R
 none_or r others column [] = Read r
 none_or r others column (token ∷ tokens) = others column (token ∷ tokens)
+
+-- what stands behind that word, and where the first token is no such word, what the tokens spell
+abbrev pub behind_word_or : {R : Type 0} → (word : List ℕ) → (behind others : Reader R) → Reader R
+behind_word_or word behind others column [] = others column []
+behind_word_or word behind others column (token ∷ tokens) =
+    if bytes_eq token word then behind (column_after column token tokens) tokens else others column (token ∷ tokens)
 
 -- Items, one for each token that is left, after those of the tokens before. What a token spells may depend on the items so far.
 abbrev pub more_tokens : {A R : Type 0} → (item : List A → List ℕ → Option A) → (List A → R) → (so_far : List A) → Reader R

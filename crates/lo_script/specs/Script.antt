@@ -1,11 +1,13 @@
 -- A script: lines of requests, each marked with its session.
-use Rattle.std.specs.Prelude.{◌≡◌, ℕ, ◌+◌, ◌-◌, ◌==◌, not, Bool, true, false, All, List, [], ◌∷◌, ◌++◌, length, filter, replicate, slice_set, Option, Some, IsSome, option_map, option_and_then}
+use Rattle.std.specs.Prelude.{◌≡◌, ℕ, ◌+◌, ◌-◌, ◌==◌, not, Bool, true, false, List, [], ◌∷◌, ◌++◌, length, map, replicate, slice_set, Option, Some, None, option_map, option_and_then, if◌then◌else◌}
+use Rattle.std.specs.List.{list_any, range_with_len}
 use Rattle.std.specs.Str.Lines.{lines}
 use Rattle.lo_base.specs.declared.request.Request.{Request}
-use Rattle.lo_machine.specs.Program.{program_of}
+use Rattle.lo_machine.specs.Program.{IsProgram, program_of}
 use Rattle.lo_script.specs.Form.{request_of}
 use Rattle.lo_script.specs.Reader.{Reader, first_token}
 use Rattle.lo_script.specs.Reading.{Reading, Read, BadAt, read_and, value_of}
+use Rattle.lo_script.specs.SweepForm.{is_in_sweep}
 use Rattle.lo_script.specs.Token.{tokens_of, session_of}
 
 -- the programs of all sixteen sessions, from session 1 on, and the session of each request line, in the order of the lines
@@ -21,20 +23,14 @@ abbrev pub is_request_line : (line : List ℕ) → Bool
 is_request_line [] = false
 is_request_line (b ∷ line) = not (b == 35)
 
-abbrev pub request_by : (session : ℕ) → Reader (ℕ × Request)
-request_by session column tokens = read_and (λ request. Read (session, request)) (request_of column tokens)
+abbrev pub request_by : (programs : List (List Request)) → (session : ℕ) → Reader (ℕ × Request)
+request_by programs session column tokens =
+    read_and (λ request. Read (session, request)) (request_of (is_in_sweep (program_of programs session)) column tokens)
 
--- a line's session and request, or the column where it is outside the grammar: its mark, and the tokens of a form
-abbrev pub entry_of : (line : List ℕ) → Reading (ℕ × Request)
-entry_of line = first_token session_of request_by 1 (tokens_of line)
-
-abbrev pub entry_in : (line : List ℕ) → Option (ℕ × Request)
-entry_in line = value_of (entry_of line)
-
--- the values of all, where each has one
-abbrev pub all_of : {A B : Type 0} → (A → Option B) → List A → Option (List B)
-all_of value [] = Some []
-all_of value (a ∷ more) = option_and_then (λ b. option_map (λ bs. b ∷ bs) (all_of value more)) (value a)
+-- The session and the request of a line behind programs, or the column where it is outside the grammar: its mark, and the tokens of
+-- a form that may stand there.
+abbrev pub entry_behind : (programs : List (List Request)) → (line : List ℕ) → Reading (ℕ × Request)
+entry_behind programs line = first_token session_of (request_by programs) 1 (tokens_of line)
 
 -- a request goes to the end of its session's program, and its session to the end of the order
 abbrev pub with_entry : ScriptText → ℕ × Request → ScriptText
@@ -45,32 +41,66 @@ abbrev pub with_entries : ScriptText → List (ℕ × Request) → ScriptText
 with_entries script [] = script
 with_entries script (entry ∷ entries) = with_entries (with_entry script entry) entries
 
--- a script with lines added at its end: nothing where one of them is outside the grammar. Lines end with a line feed, which
--- the last may lack; one carriage return before a line feed is no part of its line
+-- a script with one line added at its end: nothing where it is outside the grammar
+abbrev pub with_line : ScriptText → (line : List ℕ) → Option ScriptText
+with_line script line =
+    if is_request_line line then option_map (with_entry script) (value_of (entry_behind script.programs line)) else Some script
+
+-- the same with lines, one after the other
 abbrev pub with_lines : ScriptText → List (List ℕ) → Option ScriptText
-with_lines script added = option_map (with_entries script) (all_of entry_in (filter is_request_line added))
+with_lines script [] = Some script
+with_lines script (line ∷ lines) = option_and_then (λ longer. with_lines longer lines) (with_line script line)
 
--- the script that a text spells: nothing where it is outside the grammar
+-- whether a session is inside a clean-up behind its last line
+abbrev pub ends_in_sweep : (programs : List (List Request)) → Bool
+ends_in_sweep programs = list_any (λ session. is_in_sweep (program_of programs session)) (range_with_len 1 16)
+
+-- the script, if each clean-up in it has its finish
+abbrev pub if_finished : ScriptText → Option ScriptText
+if_finished script = if ends_in_sweep script.programs then None else Some script
+
+abbrev pub empty_script : ScriptText
+empty_script = script_with (replicate 16 []) []
+
+-- The script that a text spells: nothing where it is outside the grammar. Lines end with a line feed, which the last may lack;
+-- one carriage return before a line feed is no part of its line.
 abbrev pub script_of : (text : List ℕ) → Option ScriptText
-script_of text = with_lines (script_with (replicate 16 []) []) (lines text)
+script_of text = option_and_then if_finished (with_lines empty_script (lines text))
 
--- a line that is skipped, or spells a session and a request
-abbrev pub IsAllowed : (line : List ℕ) → Type 0
-IsAllowed line = is_request_line line ≡ true → IsSome (entry_in line)
-
--- The first line of a text that is outside the grammar, by its number and the column in it. Lines are counted from 1, and those
--- that are skipped count.
-pub record IsFirstBad (text : List ℕ) (number column : ℕ) : Type 0 where
+-- A line is outside the grammar, and those before it are not. Lines are counted from 1, and those that are skipped count.
+pub record IsBadLine (text : List ℕ) (number column : ℕ) : Type 0 where
   pub before : List (List ℕ)
   pub line : List ℕ
   pub after : List (List ℕ)
+  pub so_far : ScriptText
   pub split : lines text ≡ before ++ line ∷ after
   pub counted : number ≡ length before + 1
-  pub allowed : All IsAllowed before
+  pub allowed : with_lines empty_script before ≡ Some so_far
   pub request : is_request_line line ≡ true
-  pub bad : entry_of line ≡ BadAt column
+  pub bad : entry_behind so_far.programs line ≡ BadAt column
 
--- some text spells the script of one line, which is that session's request
-pub record HasText (session : ℕ) (request : Request) : Type 0 where
+-- No line is outside the grammar, but a clean-up lacks its finish. Its place is the first column of the line that is missing.
+pub record IsBadEnd (text : List ℕ) (number column : ℕ) : Type 0 where
+  pub script : ScriptText
+  pub allowed : with_lines empty_script (lines text) ≡ Some script
+  pub unfinished : ends_in_sweep script.programs ≡ true
+  pub counted : number ≡ length (lines text) + 1
+  pub first : column ≡ 1
+
+-- where a text is first outside the grammar
+pub data IsFirstBad (text : List ℕ) (number column : ℕ) : Type 0 where
+  InLine : IsBadLine text number column → IsFirstBad text number column
+  AtEnd : IsBadEnd text number column → IsFirstBad text number column
+
+-- The clean-ups of a program stand as they must, and each has its finish.
+pub record IsFinished (program : List Request) : Type 0 where
+  pub sweeps : IsProgram program
+  pub outside : is_in_sweep program ≡ false
+
+abbrev pub entries_by : (session : ℕ) → (program : List Request) → List (ℕ × Request)
+entries_by session program = map (λ request. (session, request)) program
+
+-- some text spells the script of one session that has these lines
+pub record HasText (session : ℕ) (program : List Request) : Type 0 where
   pub text : List ℕ
-  pub spelled : script_of text ≡ Some (with_entry (script_with (replicate 16 []) []) (session, request))
+  pub spelled : script_of text ≡ Some (with_entries empty_script (entries_by session program))

@@ -1,14 +1,15 @@
 -- What a line spells, said by printing: the tokens that can be written in one way alone, and those behind them.
-use Rattle.std.specs.Prelude.{◌≡◌, ℕ, [], ◌∷◌, ◌++◌, Some, None, codes}
+use Rattle.std.specs.Prelude.{◌≡◌, ℕ, true, false, [], ◌∷◌, ◌++◌, Some, None, codes}
 use Rattle.std.specs.Fmt.{decimal, signed_decimal}
 use Rattle.std.specs.List.{AllByRecursion}
 use Rattle.hex.specs.Hex.{IsBytes}
 use Rattle.lo_base.specs.declared.request.Request.{Request}
-use Rattle.lo_base.specs.declared.request.Request.TheVariants.{Begin, Commit, Rollback, Savepoint, Release, RollbackTo, LoCreat, LoCreate, LoOpen, LoClose, LoRead, LoWrite, LoLseek, LoLseek64, LoTell, LoTell64, LoTruncate, LoTruncate64, LoUnlink, LoGet, LoPut, LoFromBytea, CreateTable, Insert, Update, Delete, Get, Ids, Slice, Declare, Fetch, Close, Rewrite, Vacuum, Array, Load, Set, Elem, Show}
-use Rattle.lo_machine.specs.Served.{IsServed}
+use Rattle.lo_base.specs.declared.request.Request.TheVariants.{Begin, Commit, Rollback, Savepoint, Release, RollbackTo, LoCreat, LoCreate, LoOpen, LoClose, LoRead, LoWrite, LoLseek, LoLseek64, LoTell, LoTell64, LoTruncate, LoTruncate64, LoUnlink, LoGet, LoPut, LoFromBytea, CreateTable, Insert, Update, Delete, Get, Ids, Slice, Declare, Fetch, Close, Rewrite, Vacuum, Array, Load, Set, Elem, Show, Vacuumlo, Step, Finish}
+use Rattle.lo_machine.specs.Spelled.{IsSpelled}
 use Rattle.lo_script.specs.Form.{request_of}
 use Rattle.lo_script.specs.Reading.{Read}
 use Rattle.lo_script.specs.SpelledValues.{IsOid, IsInt4, IsInt8, IsElement, IsLiteralInRange, IsChangeInRange, element_text, SpellAll, SpellsBytes, SpellsLiteral, SpellsColumn, SpellsStorage, SpellsChange}
+use Rattle.lo_script.specs.SweepForm.{is_of_sweep}
 use Rattle.lo_script.specs.Token.{TokenList}
 
 -- the numbers and the bytes of a request are in the ranges of their types
@@ -42,7 +43,11 @@ HasRanges (Set name sub element) = IsInt4 sub × IsElement element
 HasRanges (Elem name sub) = IsInt4 sub
 HasRanges _ = Unit {0}
 
--- The tokens of a request up to those that may be spelled in more than one way. The requests that are not read yet have none.
+-- a request that can be spelled, with numbers and bytes in their ranges
+abbrev pub IsWritable : Request → Type 0
+IsWritable r = IsSpelled r × HasRanges r
+
+-- the tokens of a request up to those that may be spelled in more than one way
 abbrev pub printed : Request → TokenList
 printed Begin = codes "begin" ∷ []
 printed Commit = codes "commit" ∷ []
@@ -84,7 +89,10 @@ printed (Load name table id column) = codes "load" ∷ name ∷ table ∷ signed
 printed (Set name sub element) = codes "set" ∷ name ∷ signed_decimal sub ∷ element_text element ∷ []
 printed (Elem name sub) = codes "elem" ∷ name ∷ signed_decimal sub ∷ []
 printed (Show name) = codes "show" ∷ name ∷ []
-printed _ = []
+printed (Vacuumlo true limit) = codes "vacuumlo" ∷ codes "-n" ∷ decimal limit ∷ []
+printed (Vacuumlo false limit) = codes "vacuumlo" ∷ decimal limit ∷ []
+printed Step = codes "step" ∷ []
+printed Finish = codes "finish" ∷ []
 
 -- the tokens behind those: bytes, and lists of values, of columns and of changes, each of which may be spelled in more than one way
 abbrev pub SpellRest : Request → TokenList → Type 0
@@ -103,11 +111,11 @@ pub record Spells (r : Request) (tokens : TokenList) : Type 0 where
   pub is : tokens ≡ printed r ++ rest
   pub spell_rest : SpellRest r rest
 
--- the tokens spell a request that is served, whose numbers and bytes are in their ranges
+-- the tokens spell a request that can be spelled, whose numbers and bytes are in their ranges
 abbrev pub SpellsServed : Request → TokenList → Type 0
-SpellsServed r tokens = IsServed r × HasRanges r × Spells r tokens
+SpellsServed r tokens = IsSpelled r × HasRanges r × Spells r tokens
 
--- some tokens spell the request, wherever in a line they begin
+-- some tokens spell the request where it may stand, wherever in a line they begin
 pub record HasSpelling (r : Request) : Type 0 where
   pub tokens : TokenList
-  pub spelled : (column : ℕ) → request_of column tokens ≡ Read r
+  pub spelled : (column : ℕ) → request_of (is_of_sweep r) column tokens ≡ Read r

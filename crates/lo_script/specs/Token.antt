@@ -9,6 +9,7 @@ use Rattle.std.specs.Result.{result_ok}
 use Rattle.std.specs.Str.Parse.{signed_digits_value}
 use Rattle.hex.specs.Hex.{decode_of}
 use Rattle.lo_base.specs.Name.{starts_name, continues_name}
+use Rattle.lo_machine.specs.Spelled.{sweep_limit}
 
 -- the pieces of a text that is cut at every such byte
 abbrev pub pieces_of : (at : ℕ) → (text : List ℕ) → List (List ℕ)
@@ -80,6 +81,10 @@ natural_to most (negsuc n) = None
 -- a decimal from 0 to the greatest number of a large object
 abbrev pub oid_of : (token : List ℕ) → Option ℕ
 oid_of token = option_and_then (natural_to oid_limit) (int8_of token)
+
+-- a decimal from 0 to the greatest limit of a clean-up
+abbrev pub limit_of : (token : List ℕ) → Option ℕ
+limit_of token = option_and_then (natural_to sweep_limit) (int8_of token)
 
 abbrev pub of_at_most : (most : ℕ) → List ℕ → Option (List ℕ)
 of_at_most most bytes = if nat_le (length bytes) most then Some bytes else None

@@ -1,6 +1,6 @@
 // The forms of requests: the word is found here, and one reader for each form takes its arguments token by token. Forms on large
-// objects are in large_object_form.rt, those on tables in table_form.rt, those on array variables in array_form.rt. A new form is
-// one arm and one reader, one line of the tables of forms in specs/, and its printed form in specs/Spelling.antt.
+// objects are in large_object_form.rt, those on tables in table_form.rt, those on array variables in array_form.rt, those of
+// clean-ups in sweep_form.rt. A new form is one arm and one reader, one line of the tables of forms in specs/, and its printed form in specs/Spelling.antt.
 ghost use Rattle.lo_base.specs.declared.request.Request.TheVariants.{Savepoint, Release};
 ghost use Rattle.lo_script.specs.Answer.{Reads};
 ghost use Rattle.lo_script.specs.Form.{form_in, other_forms, request_of};
@@ -10,17 +10,25 @@ ghost use Rattle.lo_script.specs.Token.{name_of};
 
 use crate::error::LineError;
 use crate::large_object_form::read_large_object_form;
+use crate::sweep_form::{read_sweep_form, read_vacuumlo};
 use crate::table_form::read_table_form;
 use crate::token::{Token, Tokens};
 use lo_base::Request;
 use std::alloc::Global;
 
-/// The request that the tokens spell. Reading stops at the first token that is not allowed there.
-pub fn read_request(alloc: Global, tokens: &mut Tokens) -> Result<Request, LineError>
-    ensures { Reads (request_of tokens.old.column tokens.old.tokens) result }
+/// The request that the tokens spell, inside a clean-up of its session or outside. Reading stops at the first token that is
+/// not allowed there.
+pub fn read_request(
+    alloc: Global,
+    in_sweep: bool,
+    tokens: &mut Tokens,
+) -> Result<Request, LineError>
+    ensures { Reads (request_of in_sweep tokens.old.column tokens.old.tokens) result }
 {
     let word = tokens.next()?;
-    if word.begins(b"lo_") {
+    if in_sweep {
+        read_sweep_form(&word, tokens)
+    } else if word.begins(b"lo_") {
         read_large_object_form(alloc, &word, tokens)
     } else {
         read_other_form(alloc, &word, tokens)
@@ -44,6 +52,8 @@ fn read_other_form(alloc: Global, word: &Token, tokens: &mut Tokens) -> Result<R
         read_release(alloc, tokens)
     } else if word.is(b"vacuum") {
         complete(tokens, Request::Vacuum)
+    } else if word.is(b"vacuumlo") {
+        read_vacuumlo(tokens)
     } else {
         read_table_form(alloc, word, tokens)
     }

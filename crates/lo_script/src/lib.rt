@@ -9,6 +9,7 @@ mod large_object_form;
 mod law;
 mod reply;
 mod script;
+mod sweep_form;
 mod table_form;
 #[cfg(test)]
 mod tests;

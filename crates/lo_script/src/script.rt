@@ -1,15 +1,17 @@
 // A script as a whole: its lines, and whose they are. What a line spells is in form.rt and token.rt. Lines are split as
 // `lines` of specs/Script.antt says, so an end of line is nowhere else looked at.
-ghost use Rattle.std.specs.Prelude.{◌≡◌, ◌<◌, ◌∷◌, length, Some, None, IfOk, IfErr};
+ghost use Rattle.std.specs.Prelude.{◌≡◌, ◌<◌, ◌∷◌, length, Some, None, IfOk, IfErr, ℕ};
 ghost use Rattle.std.specs.Str.Lines.{lines, strip_carriage_return};
+ghost use Rattle.lo_machine.specs.Program.{program_of};
 ghost use Rattle.lo_machine.specs.Run.{IsOrderOf};
 ghost use Rattle.lo_script.specs.Answer.{IsBad, NamesFirstBad, Reads};
-ghost use Rattle.lo_script.specs.Script.{script_of, script_with, entry_of, is_request_line};
+ghost use Rattle.lo_script.specs.Script.{script_of, script_with, entry_behind, ends_in_sweep, is_request_line, IsFinished};
 
 use crate::error::{LineError, ScriptError};
 use crate::form::read_request;
+use crate::sweep_form::is_in_sweep;
 use crate::token::{Tokens, cut};
-use lo_base::{Request, SessionNo};
+use lo_base::{Request, SESSIONS, SessionNo};
 use lo_machine::{Programs, Schedule};
 use std::alloc::Global;
 
@@ -23,11 +25,13 @@ pub struct Script {
 }
 
 /// Reads a script: one request a line, after the mark of its session, such as `B:`. Reading stops at the
-/// first line outside the grammar, which the error names with the column in it.
+/// first line outside the grammar, which the error names with the column in it. Where a clean-up lacks its
+/// `finish`, that is column 1 of the line after the last.
 #[tactic(auto, using(crate::proofs::FirstBadLines::skipped_read))]
 pub fn read_script(alloc: Global, bytes: &[u8]) -> Result<Script, ScriptError>
     ensures ok { IfOk result (λ s. script_of bytes.now ≡ Some (script_with s.programs s.order)) }
     ensures order { IfOk result (λ s. IsOrderOf s.programs s.order) }
+    ensures sweeps { IfOk result (λ s. (session : ℕ) → IsFinished (program_of s.programs session)) }
     ensures bad { IfErr result (λ e. IsBad e → script_of bytes.now ≡ None) }
     ensures first { IfErr result (NamesFirstBad bytes.now) }
 {
@@ -40,7 +44,7 @@ pub fn read_script(alloc: Global, bytes: &[u8]) -> Result<Script, ScriptError>
         rest = after;
         number += 1;
         if is_request_line(line) {
-            let (s, request) = match read_line(alloc, line) {
+            let (s, request) = match read_line(alloc, &programs, line) {
                 Ok(entry) => entry,
                 Err(e) => return Err(e.in_line(number)),
             };
@@ -48,16 +52,39 @@ pub fn read_script(alloc: Global, bytes: &[u8]) -> Result<Script, ScriptError>
             order.push(s)?;
         }
     }
+    if ends_in_sweep(&programs) {
+        return Err(LineError::Bad(1).in_line(number + 1));
+    }
     Ok(Script { programs, order })
 }
 
-/// The session and the request of a line.
-fn read_line(alloc: Global, line: &[u8]) -> Result<(SessionNo, Request), LineError>
-    ensures { Reads (entry_of line.now) result }
+/// The session and the request of a line behind the lines that were read.
+fn read_line(
+    alloc: Global,
+    programs: &Programs,
+    line: &[u8],
+) -> Result<(SessionNo, Request), LineError>
+    ensures { Reads (entry_behind programs.now line.now) result }
 {
     let mut tokens = Tokens::of(line);
     let s = tokens.next()?.session()?;
-    Ok((s, read_request(alloc, &mut tokens)?))
+    let in_sweep = is_in_sweep(programs.lines(s));
+    Ok((s, read_request(alloc, in_sweep, &mut tokens)?))
+}
+
+/// Whether a session is inside a clean-up behind its last line.
+fn ends_in_sweep(programs: &Programs) -> bool
+    ensures { result ≡ ends_in_sweep programs.now }
+{
+    for number in 1..=SESSIONS {
+        let Some(s) = SessionNo::new(number) else {
+            continue;
+        };
+        if is_in_sweep(programs.lines(s)) {
+            return true;
+        }
+    }
+    false
 }
 
 /// Whether the line is neither empty nor a comment.

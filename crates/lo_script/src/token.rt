@@ -9,7 +9,7 @@ ghost use Rattle.lo_script.specs.Reading.{read_at};
 ghost use Rattle.lo_script.specs.declared.error.LineError.TheVariants.{Bad};
 ghost use Rattle.lo_script.specs.Token.{tokens_of, rest_of, column_after, pieces_of, pieces_left};
 ghost use Rattle.lo_script.specs.Token.{length_left, cut_at, cut_in, keyword_of, session_of, oid_of, int4_of};
-ghost use Rattle.lo_script.specs.Token.{int8_of, name_of, bytes_of, begins};
+ghost use Rattle.lo_script.specs.Token.{int8_of, limit_of, name_of, bytes_of, begins};
 
 use crate::error::LineError;
 use hex::FromHexError;
@@ -154,6 +154,16 @@ impl Token<'_> {
     {
         match decimal(self.text) {
             Some(n) if 0 <= n && n <= i64::from(Oid::MAX) => Ok(n as Oid),
+            _ => Err(self.refused()),
+        }
+    }
+
+    /// The limit of a clean-up: a decimal from 0 to the greatest `i32`.
+    pub fn limit(&self) -> Result<u32, LineError>
+        ensures { Reads (read_at self.now.column (limit_of self.now.text.now)) result }
+    {
+        match decimal(self.text) {
+            Some(n) if 0 <= n && n <= i64::from(i32::MAX) => Ok(n as u32),
             _ => Err(self.refused()),
         }
     }

@@ -528,8 +528,7 @@ const WORDS: &[u8] = b"04 A: createtable t id:int8|
 04 A: elems a 1|
 04 A: shows a|
 04 A: show\ta|
-04 A: vacuumlo 0|
-04 A: vacuumlo|
+12 A: vacuumlo|
 04 A: step|
 04 A: finish|
 04 A: drop table t|
@@ -579,7 +578,7 @@ fn wrong_forms_of_arrays_are_refused(rt: HostRuntime) {
 
 #[test]
 fn other_words_are_refused(rt: HostRuntime) {
-    expect_table(&rt, rt.alloc(), WORDS, 29);
+    expect_table(&rt, rt.alloc(), WORDS, 28);
 }
 
 #[test]

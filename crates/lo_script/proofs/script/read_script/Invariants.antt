@@ -1,14 +1,12 @@
--- What was read so far, with the lines that are left, is what the whole text spells.
+-- What was read so far is the script of the lines before those that are left.
 use Rattle.std.proofs.Common.{◌≡◌, ◌+◌, ◌≤◌, length}
-use Rattle.std.specs.Str.Lines.{lines}
-use Rattle.lo_script.specs.Script.{script_of, script_with, with_lines}
+use Rattle.lo_script.specs.Script.{script_with}
 use Rattle.lo_script.proofs.FirstBadLines.{ReadUpTo}
 use Rattle.lo_script.proofs.script.read_script.Given as goal
 
 abbrev pub invariant-loop-rest : goal.invariant-loop-rest
 invariant-loop-rest l = record {
-  read : with_lines (script_with l.programs l.order) (lines l.rest) ≡ script_of l.bytes;
-  front : ReadUpTo l.bytes l.rest l.number;
+  front : ReadUpTo l.bytes l.rest l.number (script_with l.programs l.order);
   counted : l.number + length l.rest ≤ length l.bytes;
 }
 
