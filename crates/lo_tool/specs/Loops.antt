@@ -1,9 +1,5 @@
 -- What the loops that read and write keep.
-use Rattle.std.specs.Prelude.{◌≡◌, ◌≤◌, ◌++◌, ℕ, List, IsTrue, take, drop, length}
-use Rattle.lo_base.specs.declared.request.Request.{Request}
-use Rattle.lo_model.specs.Opening.{Opening}
-use Rattle.lo_machine.specs.Replay.{Play, moment_of}
-use Rattle.lo_machine.specs.Run.{IsPlayable}
+use Rattle.std.specs.Prelude.{◌≡◌, ◌≤◌, ◌++◌, ℕ, List, IsTrue, take, length}
 use Rattle.lo_outside.specs.Files.{bytes_of}
 use Rattle.lo_tool.specs.Outside.{FilesState, SinkState}
 
@@ -25,11 +21,3 @@ pub record HasFront (old new : FilesState) (name bytes : List ℕ) (size : ℕ) 
   pub same : new.tells ≡ old.tells
   pub files : new.folder ≡ old.folder
   pub count : new.faults ≡ old.faults
-
--- a front of the order is played on an opening, and the rest can be
-pub record HasPlayed (opening : Opening) (programs : List (List Request)) (order : List ℕ)
-    (play : Play) (i : ℕ) : Type 0 where
-  pub opening_stays : play.opening ≡ opening
-  pub programs_stay : play.programs ≡ programs
-  pub schedule : play.schedule ≡ take i order
-  pub playable : IsPlayable programs (moment_of play) (drop i order)

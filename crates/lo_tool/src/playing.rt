@@ -11,7 +11,7 @@ ghost use Rattle.lo_tool.specs.ScriptFile.{PlaysTo, schedule_on};
 use crate::stop::Stop;
 use crate::text::{bad_line_text, line_about};
 use lo_base::{Bytes, NoMemory, Reply, SessionNo};
-use lo_machine::{Finished, Running, orders_are_whole, served_lines_take_one_advance};
+use lo_machine::{Finished, Running, orders_are_whole};
 use lo_opening::Opening;
 use lo_script::{Script, ScriptError, read_script, reply_text};
 use std::alloc::Global;
@@ -50,31 +50,19 @@ fn play(alloc: Global, opening: Opening, script: Script) -> Result<Finished, NoM
     ensures plays { IfOk result (PlaysTo (opening_of opening) script.programs
         (schedule_on (opening_of opening) (script_with script.programs script.order))) }
 {
-    know_schedule(&opening, &script);
+    orders_are_whole();
     play_order(alloc, opening, script)
 }
 
-/// A script's schedule is its order so far, since each line takes one advance, and it is whole. No request is looked at.
-fn know_schedule(_opening: &Opening, script: &Script)
-    requires { IsOrderOf script.now.programs script.now.order }
-    ensures order { schedule_on (opening_of _opening.now)
-        (script_with script.now.programs script.now.order) ≡ script.now.order }
-    ensures whole { IsWholeFrom script.now.programs (start_from (opening_of _opening.now))
-        script.now.order }
-{
-    orders_are_whole();
-    served_lines_take_one_advance();
-    script.programs.served();
-}
-
-/// Advances each session of the order once, one after the other.
+/// Does the next line of each session of the order, one after the other. A `finish` takes as many advances as its clean-up needs.
 fn play_order(alloc: Global, opening: Opening, script: Script) -> Result<Finished, NoMemory>
-    requires { IsWholeFrom script.programs (start_from (opening_of opening)) script.order }
-    ensures { IfOk result (PlaysTo (opening_of opening) script.programs script.order) }
+    requires { IsOrderOf script.programs script.order }
+    ensures { IfOk result (PlaysTo (opening_of opening) script.programs
+        (schedule_on (opening_of opening) (script_with script.programs script.order))) }
 {
     let mut running = Running::start(alloc, opening, script.programs)?;
     for s in script.order.items() {
-        running.advance(*s)?;
+        running.do_line(*s)?;
     }
     running.finish()
 }

@@ -7,6 +7,7 @@ mod large;
 mod objects;
 mod refused_memory;
 mod saved;
+mod sweeps;
 mod tables;
 mod transactions;
 
