@@ -82,6 +82,7 @@ pub mod Steps
 pub mod SweepActs
 pub mod SweepAgain
 pub mod SweepAlone
+mod SweepAloneExamples
 pub mod SweepEdits
 mod SweepExamples
 pub mod SweepGroups
@@ -91,7 +92,9 @@ pub mod SweepPast
 pub mod SweepReports
 pub mod SweepRequests
 pub mod SweepRuns
+pub mod SweepSpares
 pub mod SweepStops
+pub mod SweepUnrefused
 pub mod SweepViews
 pub mod TableCalls
 mod TableExamples

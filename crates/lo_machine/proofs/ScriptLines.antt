@@ -61,7 +61,7 @@ unrefused st s acts.Report true is at busy other = rw (is, at) refl
 unrefused st s acts.Report false is at busy other = rw (is, at) refl
 unrefused st s acts.Idle mark is at busy other = cc
 
-before_is_busy : (act : SweepAct) → is_before_report act ≡ true → is_idle act ≡ false
+pub before_is_busy : (act : SweepAct) → is_before_report act ≡ true → is_idle act ≡ false
 before_is_busy (acts.Scan t c) h = refl
 before_is_busy acts.Begin h = refl
 before_is_busy (acts.Unlink o) h = refl

@@ -19,7 +19,7 @@ pub end_append : (programs : List (List Request)) (m : Moment) (xs ys : List ℕ
 end_append programs m [] ys = refl
 end_append programs m (x ∷ xs) ys = end_append programs (moment_after m x (next_line programs m x)) xs ys
 
-each_append : (test : State → ℕ → Option Request → Bool) (s : ℕ) (programs : List (List Request)) (m : Moment) (xs ys : List ℕ) → EachOwn test s programs m xs → EachOwn test s programs (end_from programs m xs) ys → EachOwn test s programs m (xs ++ ys)
+pub each_append : (test : State → ℕ → Option Request → Bool) (s : ℕ) (programs : List (List Request)) (m : Moment) (xs ys : List ℕ) → EachOwn test s programs m xs → EachOwn test s programs (end_from programs m xs) ys → EachOwn test s programs m (xs ++ ys)
 each_append test s programs m [] ys first then = then
 each_append test s programs m (x ∷ xs) ys first then = (first.0, each_append test s programs (moment_after m x (next_line programs m x)) xs ys first.1 then)
 

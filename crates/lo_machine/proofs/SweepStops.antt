@@ -40,7 +40,7 @@ no_unlinks s h (d ∷ ds) follows none =
     let each = both_false (is_unlink d.act) (list_any is_unlink (acts_of ds)) none in
     ap (λ b. b || list_any is_refused (map (told_by s) ds)) (other_unrefused d.act (told_by s d) follows.1 each.0) ∙ no_unlinks s (and_told h (told_by s d)) ds follows.3 each.1
 
-none_in_front : (p : SweepAct → Bool) (n : ℕ) (xs : List SweepAct) → list_any p xs ≡ false → list_any p (take n xs) ≡ false
+pub none_in_front : (p : SweepAct → Bool) (n : ℕ) (xs : List SweepAct) → list_any p xs ≡ false → list_any p (take n xs) ≡ false
 none_in_front p zero xs none = refl
 none_in_front p (suc n) [] none = refl
 none_in_front p (suc n) (x ∷ xs) none =
@@ -55,7 +55,7 @@ scans_report_none : (columns : List Scan) → list_any is_report (map scan_act c
 scans_report_none [] = refl
 scans_report_none (scan ∷ columns) = scans_report_none columns
 
-scans_remove_none : (columns : List Scan) → unlinks (map scan_act columns) ≡ []
+pub scans_remove_none : (columns : List Scan) → unlinks (map scan_act columns) ≡ []
 scans_remove_none [] = refl
 scans_remove_none (scan ∷ columns) = scans_remove_none columns
 
@@ -110,15 +110,15 @@ module _ (w : Sweeping) (is : IsSweeping w) where
 
 -- The first act that was refused.
 
-record FirstOf (p : Done → Bool) (ds : List Done) : Type 0 where
-  before : List Done
-  it : Done
-  after : List Done
-  split : ds ≡ before ++ it ∷ after
-  none : list_any p before ≡ false
-  is : p it ≡ true
+pub record FirstOf (p : Done → Bool) (ds : List Done) : Type 0 where
+  pub before : List Done
+  pub it : Done
+  pub after : List Done
+  pub split : ds ≡ before ++ it ∷ after
+  pub none : list_any p before ≡ false
+  pub is : p it ≡ true
 
-the_first : (p : Done → Bool) (ds : List Done) → list_any p ds ≡ true → FirstOf p ds
+pub the_first : (p : Done → Bool) (ds : List Done) → list_any p ds ≡ true → FirstOf p ds
 the_first p [] some = cc
 the_first p (d ∷ ds) some = by (p d) refl (λ later. the_first p ds later)
   where
@@ -139,7 +139,7 @@ told_append : (h : History) (xs ys : List Told) → and_all_told h (xs ++ ys) �
 told_append h [] ys = refl
 told_append h (x ∷ xs) ys = told_append (and_told h x) xs ys
 
-the_refusal : (answer : Told) → is_refused answer ≡ true → answer ≡ Refused
+pub the_refusal : (answer : Told) → is_refused answer ≡ true → answer ≡ Refused
 the_refusal (Found numbers) h = cc
 the_refusal Granted h = cc
 the_refusal Refused h = refl
@@ -196,10 +196,10 @@ refused_first (act ∷ plan) (Found numbers ∷ before) later o none is =
 
 -- A history that was refused an act: what it did before, and what its report says.
 
-abbrev told_so : Bool → ℕ → List ℕ → List Scan → List Told → History
+abbrev pub told_so : Bool → ℕ → List ℕ → List Scan → List Told → History
 told_so dry limit list columns answers' = record { dry = dry; limit = limit; list = list; scans = columns; answers = answers' }
 
-front_done : (h : History) (o : ℕ) → list_any is_refused h.answers ≡ false → is_answer_to (next_act h) Refused ≡ true → next_act h ≡ acts.Unlink o → take (length h.answers) (plan_of h) ++ acts.Unlink o ∷ [] ≡ take (length h.answers + 1) (plan_of h)
+pub front_done : (h : History) (o : ℕ) → list_any is_refused h.answers ≡ false → is_answer_to (next_act h) Refused ≡ true → next_act h ≡ acts.Unlink o → take (length h.answers) (plan_of h) ++ acts.Unlink o ∷ [] ≡ take (length h.answers + 1) (plan_of h)
 front_done h o none fits next =
     let whole : acts_of_history h ≡ plan_of h = acts-whole (plan_of h) h.answers none in
     let there : drop (length h.answers) (plan_of h) ≡ acts.Unlink o ∷ drop 1 (acts_left h) =

@@ -1,6 +1,6 @@
 -- The law of clean-ups of orphans over every schedule: what one has done when its report comes, whatever other sessions did
 -- meanwhile. `src/law.rt` promises it. (Manual, vacuumlo.)
-use Rattle.std.specs.Prelude.{◌≡◌, ℕ, ◌+◌, Bool, true, false, not, ◌==◌, ◌&&◌, if◌then◌else◌, IsTrue, List, [], ◌∷◌, ◌++◌, length, take, map, filter, All, Contains, Option, Some, None, is_some}
+use Rattle.std.specs.Prelude.{◌≡◌, ◌≢◌, ℕ, ◌+◌, Bool, true, false, not, ◌==◌, ◌&&◌, if◌then◌else◌, IsTrue, List, [], ◌∷◌, ◌++◌, length, take, map, filter, All, Contains, Option, Some, None, is_some}
 use Rattle.std.specs.List.{list_any, flat_map, concat}
 use Rattle.std.specs.List.Sorted.{IsStrictlyIncreasing}
 use Rattle.lo_base.specs.declared.reply.Reply.{Reply}
@@ -13,6 +13,7 @@ use Rattle.lo_model.specs.declared.owner.Owner.TheVariants.{Committed}
 use Rattle.lo_model.specs.Edit.{Deed, Create, Unlink, Edit}
 use Rattle.lo_model.specs.declared.viewer.Viewer.TheVariants.{Nobody}
 use Rattle.lo_model.specs.Listing.{has_object, oids_in}
+use Rattle.lo_model.specs.Transaction.{is_open}
 use Rattle.lo_model.specs.View.{sees_edit}
 use Rattle.orphan_sweep.specs.declared.act.Scan.{Scan}
 use Rattle.orphan_sweep.specs.declared.act.SweepAct.{SweepAct}
@@ -24,7 +25,7 @@ use Rattle.orphan_sweep.specs.Plan.{scan_act, group_acts, removal, unlinks}
 use Rattle.orphan_sweep.specs.Rest.{less, groups}
 use Rattle.lo_machine.specs.Replay.{Play, moment_of}
 use Rattle.lo_machine.specs.Run.{Moment, next_line, moment_after, end_from, start_from}
-use Rattle.lo_machine.specs.State.{State, now, edits, view_of, committed_edits}
+use Rattle.lo_machine.specs.State.{State, now, edits, session_of, view_of, committed_edits}
 use Rattle.lo_machine.specs.Step.{refusal_of, reply_to}
 use Rattle.lo_machine.specs.SweepRows.{scans_of, sweep_begun, act_of, answer_to, found_in, is_idle}
 
@@ -236,6 +237,13 @@ pub record EndsAlone (w : Sweeping) : Type 0 where
 abbrev pub CommitsWhole : Sweeping → Type 0
 CommitsWhole w =
     EndsAlone w → AreCommitted (edits (end w).state) (groups w.limit (rest w)) (commit_clocks (done w))
+
+-- Since its vacuumlo every advance was an act of the clean-up, and no other session has had a transaction block of its own:
+-- none had one at the vacuumlo, and no other session has advanced since.
+pub record IsAlone (w : Sweeping) : Type 0 where
+  pub own : All (λ t. t ≡ w.session) w.since
+  pub acts : EachOwn does_act w.session w.programs (beginning w) w.since
+  pub closed : (t : ℕ) → t ≢ w.session → is_open (session_of w.moment.state t).transaction ≡ false
 
 -- What became committed since the clean-up's vacuumlo: it is in the committed view at the end, and was not in the one then.
 abbrev pub is_since : Sweeping → Edit Deed → Bool

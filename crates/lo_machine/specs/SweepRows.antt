@@ -58,6 +58,10 @@ vacuumlo_granted st s dry limit = record {
   player = with_sweep (sweep_begun st s dry limit) (st.players s);
 }
 
+abbrev pub is_idle : SweepAct → Bool
+is_idle acts.Idle = true
+is_idle _ = false
+
 -- the act that comes next: idle where no clean-up is before its report
 abbrev pub act_in : Option History → SweepAct
 act_in None = acts.Idle
@@ -85,6 +89,10 @@ found_in st s table column = flat_map (λ row. number_in (value_under column (co
 abbrev pub rest_in : Option History → List ℕ
 rest_in None = []
 rest_in (Some h) = rest_of h
+
+-- the list less what was found, up to the report
+abbrev pub rest_before_report : Option History → List ℕ
+rest_before_report sweep = if is_idle (act_in sweep) then [] else rest_in sweep
 
 abbrev pub scan_reply : State → (session : ℕ) → (table column : List ℕ) → Reply
 scan_reply st s table column =
@@ -144,7 +152,3 @@ abbrev pub is_before_report : SweepAct → Bool
 is_before_report acts.Report = false
 is_before_report acts.Idle = false
 is_before_report _ = true
-
-abbrev pub is_idle : SweepAct → Bool
-is_idle acts.Idle = true
-is_idle _ = false

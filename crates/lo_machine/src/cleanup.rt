@@ -6,7 +6,7 @@ ghost use Rattle.orphan_sweep.specs.History.{History, and_told, begun};
 ghost use Rattle.orphan_sweep.specs.Plan.{is_answer_to};
 ghost use Rattle.orphan_sweep.specs.State.{next_of};
 ghost use Rattle.lo_machine.specs.Sweeping.{IsAt, IsFor, IsOver, first_some, refused_by};
-ghost use Rattle.lo_machine.specs.SweepRows.{act_in, report_in, rest_in};
+ghost use Rattle.lo_machine.specs.SweepRows.{act_in, report_in, rest_before_report, rest_in};
 ghost use Rattle.std.specs.Prelude.{Option};
 
 use lo_base::{ListOf, Oid, Oids, Reply, Word};
@@ -62,6 +62,16 @@ impl Cleanup {
         ensures { (h : Option History) → IsFor self.now h → result.now ≡ rest_in h }
     {
         self.sweep.rest()
+    }
+
+    /// The same up to the report. It is empty once that was made.
+    pub fn rest_before_report(&self) -> &[Oid]
+        ensures { (h : Option History) → IsFor self.now h → result.now ≡ rest_before_report h }
+    {
+        match self.next() {
+            SweepAct::Idle => &[],
+            _ => self.rest(),
+        }
     }
 
     /// Takes what became of the act.

@@ -10,7 +10,7 @@ ghost use Rattle.lo_machine.specs.Served.{IsServed};
 ghost use Rattle.lo_machine.specs.Server.{HasRoom, HasRows};
 ghost use Rattle.lo_machine.specs.State.{State};
 ghost use Rattle.lo_machine.specs.Step.{outcome};
-ghost use Rattle.lo_machine.specs.SweepRows.{act_of, rest_in, vacuumlo_granted};
+ghost use Rattle.lo_machine.specs.SweepRows.{act_of, rest_before_report, vacuumlo_granted};
 ghost use Rattle.lo_machine.specs.Sweeping.{sweeps_of};
 
 use crate::cleanup::Cleanup;
@@ -87,14 +87,15 @@ impl Engine {
         self.cleanups[s.place()].next()
     }
 
-    /// The list of the session's clean-up less what its scans found so far. It is empty where there is none.
+    /// The list of the session's clean-up less what its scans found so far. It is empty where none is before its report.
     pub fn rest(&self, s: SessionNo) -> &[Oid]
         requires sound { IsEngine self.now }
-        ensures { (st : State) → StandsFor self.now st → result.now ≡ rest_in (sweeps_of st s) }
+        ensures { (st : State) → StandsFor self.now st →
+            result.now ≡ rest_before_report (sweeps_of st s) }
     {
         // Numbers of sessions are from 1 to 16.
         let _ = s.number();
-        self.cleanups[s.place()].rest()
+        self.cleanups[s.place()].rest_before_report()
     }
 
     /// The committed database of a pool of so many blocks. Transaction blocks that are open are not in it. It costs what the

@@ -1,5 +1,5 @@
 // Laws of the definitions, and of what a server keeps. No code calls these functions.
-ghost use Rattle.std.specs.Prelude.{◌≡◌, ℕ, List, Option, Some};
+ghost use Rattle.std.specs.Prelude.{◌≡◌, ℕ, false, List, Option, Some};
 ghost use Rattle.lo_base.specs.declared.request.Request.{Request as Line};
 ghost use Rattle.lo_model.specs.Opening.{Opening};
 ghost use Rattle.lo_opening.specs.Meaning.{opening_of};
@@ -14,7 +14,7 @@ ghost use Rattle.lo_machine.specs.Run.{IsOrderOf, IsWholeFrom, end_from, schedul
 ghost use Rattle.lo_machine.specs.Served.{ArePlain, AreServed, IsServed};
 ghost use Rattle.lo_machine.specs.State.{State};
 ghost use Rattle.lo_machine.specs.Step.{reply_to, state_after};
-ghost use Rattle.lo_machine.specs.SweepLaw.{CommitsWhole, ComesFrom, EndsAtRun, IsSweepOf, IsSweeping, KeepsHistory, RemovesInRun, ReportsAtEnd, Sweeping};
+ghost use Rattle.lo_machine.specs.SweepLaw.{CommitsWhole, ComesFrom, EndsAtRun, IsAlone, IsSweepOf, IsSweeping, KeepsHistory, RemovesInRun, ReportsAtEnd, Sweeping, is_stopped};
 ghost use Rattle.orphan_sweep.specs.History.{History};
 ghost use Rattle.lo_machine.specs.Well.{IsWell};
 
@@ -69,7 +69,9 @@ pub fn openings_come_back()
 /// has removed the numbers of its list that no scan found, each once, in groups of at most the limit; in a dry run none; and
 /// it tells how many. One that was refused an unlink has undone that group, and tells how many the groups before it have.
 /// Each group is committed whole, at one clock. Then the objects that a scan found are still there, where no other session
-/// unlinked them, and those of the rest are gone but for those made again. No code runs.
+/// unlinked them, and those of the rest are gone but for those made again. One that is alone is never stopped: where no other
+/// session had a transaction block at its `vacuumlo` and each advance since then was an act of it, nothing is refused. No code
+/// runs.
 pub fn sweeps_remove_what_no_scan_found()
     ensures begun { (play : Play) (session : ℕ) (h : History) →
         ((moment_of play).state.players session).sweep ≡ Some h → ComesFrom play session h }
@@ -78,4 +80,6 @@ pub fn sweeps_remove_what_no_scan_found()
     ensures reported { (w : Sweeping) (line : Line) → IsSweeping w → ReportsAtEnd w line }
     ensures whole { (w : Sweeping) → IsSweeping w → CommitsWhole w }
     ensures removes { (play : Play) (w : Sweeping) → RemovesInRun play w }
+    ensures alone { (play : Play) (w : Sweeping) →
+        IsSweepOf play w → IsAlone w → is_stopped w ≡ false }
 {}

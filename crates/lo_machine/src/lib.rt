@@ -31,4 +31,4 @@ pub use law::{
     sweeps_remove_what_no_scan_found,
 };
 pub use programs::Programs;
-pub use running::{Finished, Replies, Running, Schedule};
+pub use running::{Finished, Replies, Running, Schedule, is_before_report};

@@ -8,11 +8,12 @@ ghost use Rattle.lo_machine.specs.Replay.{Play, HasLine, Replays, IsPlayed, Adva
 ghost use Rattle.lo_machine.specs.Run.{lines_after, stays_at_line};
 ghost use Rattle.lo_machine.specs.State.{State};
 ghost use Rattle.lo_machine.specs.SweepLaw.{IsSweepOf, KeepsSweepLaw, Sweeping};
-ghost use Rattle.lo_machine.specs.SweepRows.{is_before_report};
+ghost use Rattle.lo_machine.specs.SweepRows.{act_of, is_before_report, rest_before_report};
+ghost use Rattle.lo_machine.specs.Sweeping.{sweeps_of};
 
 use crate::engine::Engine;
 use crate::programs::Programs;
-use lo_base::{ListOf, NoMemory, Reply, Request, SESSIONS, SessionNo};
+use lo_base::{ListOf, NoMemory, Oid, Reply, Request, SESSIONS, SessionNo};
 use lo_opening::Opening;
 use orphan_sweep::SweepAct;
 use std::alloc::Global;
@@ -102,6 +103,27 @@ impl Running {
         done as u64 + 1
     }
 
+    /// The act of the session's clean-up that comes next. It is `Idle` where none is before its report.
+    pub fn act(&self, s: SessionNo) -> &SweepAct
+        ensures { result.now ≡ act_of (moment_of self.now).state s }
+    {
+        self.engine.act(s)
+    }
+
+    /// The list of the session's clean-up less what its scans found so far. It is empty where none is before its report.
+    pub fn rest(&self, s: SessionNo) -> &[Oid]
+        ensures { result.now ≡ rest_before_report (sweeps_of (moment_of self.now).state s) }
+    {
+        self.engine.rest(s)
+    }
+
+    /// The replies so far, each with its session.
+    pub fn replies(&self) -> &[(SessionNo, Reply)]
+        ensures { result.now ≡ self.now.replies }
+    {
+        &self.replies
+    }
+
     /// Does the session's next request, which is its next line, or one act of a `finish`. After want of memory all is as before, and the line can be tried again.
     pub fn advance(&mut self, s: SessionNo) -> Result<(), NoMemory>
         requires { HasLine self.old s }
@@ -185,7 +207,7 @@ fn stays_at_line(engine: &Engine, s: SessionNo, request: &Request) -> bool
 }
 
 /// Whether an act stands before its clean-up's report.
-fn is_before_report(act: &SweepAct) -> bool
+pub fn is_before_report(act: &SweepAct) -> bool
     ensures { result ≡ is_before_report act.now }
 {
     !matches!(act, SweepAct::Report | SweepAct::Idle)

@@ -3,6 +3,7 @@ use Rattle.lo_machine.proofs.SweepGroups.{commits_whole}
 use Rattle.lo_machine.proofs.SweepReports.{keeps_history}
 use Rattle.lo_machine.proofs.SweepRuns.{comes_from, ends_at_run}
 use Rattle.lo_machine.proofs.SweepStops.{reports_at_end}
+use Rattle.lo_machine.proofs.SweepUnrefused.{alone_unstopped}
 use Rattle.lo_machine.proofs.law.sweeps_remove_what_no_scan_found.Goals as goal
 
 pub returns : goal.returns
@@ -13,4 +14,5 @@ returns c = record {
   reported = reports_at_end;
   whole = commits_whole;
   removes = removes_in_run;
+  alone = alone_unstopped;
 }

@@ -12,4 +12,4 @@ returns c st stands =
       sixteen = c.requires.sound.sound.sixteen;
       taken = c.index.ensures;
     } in
-    c.rest.ensures (sweeps_of st c.args.s) (own_for c.args.self.now c.args.s c.place.result c.index.result.now own st stands)
+    c.rest_before_report.ensures (sweeps_of st c.args.s) (own_for c.args.self.now c.args.s c.place.result c.index.result.now own st stands)
