@@ -1,4 +1,5 @@
 mod Examples
+mod ProgramExamples
 mod SweepExamples
 mod TableExamples
 pub mod ArrayForms
@@ -12,6 +13,7 @@ pub mod MarksAndNames
 pub mod OneLineReplies
 pub mod PrintedFronts
 pub mod PrintedValues
+pub mod ProgramTexts
 pub mod ReadLists
 pub mod Readers
 pub mod ScriptOrder

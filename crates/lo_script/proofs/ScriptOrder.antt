@@ -1,5 +1,5 @@
 -- The order of a script names each session once for each line of its program, and each clean-up in it has its finish.
-use Rattle.std.proofs.Common.{◌≡◌, ◌≢◌, ℕ, zero, suc, ◌+◌, ◌-◌, ◌≤◌, ◌==◌, List, [], ◌∷◌, ◌++◌, length, replicate, Some, None, true, false, refl, ap, sym, ◌∙◌, inl, inr, cond, arith, length-append, length-set, subst}
+use Rattle.std.proofs.Common.{◌≡◌, ◌≢◌, ℕ, zero, suc, ◌+◌, ◌-◌, ◌≤◌, ◌==◌, List, [], ◌∷◌, ◌++◌, length, replicate, Some, None, false, refl, ap, sym, ◌∙◌, inl, inr, cond, arith, length-append, length-set, subst}
 use Rattle.std.specs.Prelude.{All, count_by, Option, option_map, slice_set, nat_lt}
 use Rattle.std.specs.Str.Lines.{lines}
 use Rattle.std.proofs.lemmas.Bool.{cases_eq}
@@ -10,8 +10,9 @@ use Rattle.std.proofs.lemmas.List.Elements.{All-nil, All-push}
 use Rattle.lo_base.specs.declared.request.Request.{Request}
 use Rattle.lo_machine.specs.Program.{IsProgram, program_of}
 use Rattle.lo_machine.specs.Run.{IsOrderOf}
+use Rattle.lo_script.specs.declared.script.Marking.{Marking}
 use Rattle.lo_script.specs.Reading.{value_of}
-use Rattle.lo_script.specs.Script.{ScriptText, IsFinished, empty_script, ends_in_sweep, entry_behind, if_finished, is_request_line, script_of, with_entry, with_line, with_lines}
+use Rattle.lo_script.specs.Script.{ScriptText, IsFinished, empty_script, ends_in_sweep, entry_by, if_finished, is_request_line, script_by, with_entry, with_line, with_lines}
 use Rattle.lo_script.specs.SweepForm.{is_in_sweep}
 use Rattle.lo_script.proofs.DecimalsAndBytes.{tested, some_injective, and_then-some}
 use Rattle.lo_script.proofs.Readers.{value_of-some}
@@ -94,42 +95,42 @@ nothing_ordered = record {
   sweeps = λ session low. subst IsProgram (sym (no_lines session)) refl;
 }
 
-map-some : {A B : Type 0} (f : A → B) (o : Option A) (b : B) → option_map f o ≡ Some b → (a : A) × (o ≡ Some a) × (f a ≡ b)
+pub map-some : {A B : Type 0} (f : A → B) (o : Option A) (b : B) → option_map f o ≡ Some b → (a : A) × (o ≡ Some a) × (f a ≡ b)
 map-some f None b h = cc h
 map-some f (Some a) b h = (a, refl, some_injective (f a) b h)
 
-ordered_line : (script longer : ScriptText) (line : List ℕ) → with_line script line ≡ Some longer → IsOrdered script → IsOrdered longer
-ordered_line script longer line h ordered = elim (tested (is_request_line line)) [
+ordered_line : (marking : Marking) (script longer : ScriptText) (line : List ℕ) → with_line marking script line ≡ Some longer → IsOrdered script → IsOrdered longer
+ordered_line marking script longer line h ordered = elim (tested (is_request_line line)) [
   | inl request ↦
-      let found = map-some (with_entry script) (value_of (entry_behind script.programs line)) longer (rw request at h) in
-      let read = entry-spelled script.programs line found.0 (value_of-some (entry_behind script.programs line) found.0 found.1) in
+      let found = map-some (with_entry script) (value_of (entry_by marking script.programs line)) longer (rw request at h) in
+      let read = entry-spelled marking script.programs line found.0 (value_of-some (entry_by marking script.programs line) found.0 found.1) in
       subst IsOrdered found.2 (ordered_more script found.0 read ordered)
   | inr skipped ↦ subst IsOrdered (some_injective script longer (rw skipped at h)) ordered
 ]
 
-ordered_lines : (added : List (List ℕ)) (script longer : ScriptText) → with_lines script added ≡ Some longer → IsOrdered script → IsOrdered longer
-ordered_lines [] script longer h ordered = subst IsOrdered (some_injective script longer h) ordered
-ordered_lines (line ∷ added) script longer h ordered =
-    let first = and_then-some (λ next. with_lines next added) (with_line script line) longer h in
-    ordered_lines added first.0 longer first.2 (ordered_line script first.0 line first.1 ordered)
+ordered_lines : (marking : Marking) (added : List (List ℕ)) (script longer : ScriptText) → with_lines marking script added ≡ Some longer → IsOrdered script → IsOrdered longer
+ordered_lines marking [] script longer h ordered = subst IsOrdered (some_injective script longer h) ordered
+ordered_lines marking (line ∷ added) script longer h ordered =
+    let first = and_then-some (λ next. with_lines marking next added) (with_line marking script line) longer h in
+    ordered_lines marking added first.0 longer first.2 (ordered_line marking script first.0 line first.1 ordered)
 
 -- a script that was read whole
 record IsReadWhole (script : ScriptText) : Type 0 where
   ordered : IsOrdered script
   finished : ends_in_sweep script.programs ≡ false
 
-read_whole : (text : List ℕ) (script : ScriptText) → script_of text ≡ Some script → IsReadWhole script
-read_whole text script h =
-    let read = and_then-some if_finished (with_lines empty_script (lines text)) script h in
-    let ordered = ordered_lines (lines text) empty_script read.0 read.1 nothing_ordered in
+read_whole : (marking : Marking) (text : List ℕ) (script : ScriptText) → script_by marking text ≡ Some script → IsReadWhole script
+read_whole marking text script h =
+    let read = and_then-some if_finished (with_lines marking empty_script (lines text)) script h in
+    let ordered = ordered_lines marking (lines text) empty_script read.0 read.1 nothing_ordered in
     elim (tested (ends_in_sweep read.0.programs)) [
       | inl unfinished ↦ let none = rw unfinished at read.2 in cc none
       | inr closed ↦ subst IsReadWhole (some_injective read.0 script (rw closed at read.2)) (record { ordered = ordered; finished = closed })
     ]
 
-pub script-ordered : (text : List ℕ) (script : ScriptText) → script_of text ≡ Some script → IsOrderOf script.programs script.order
-script-ordered text script h =
-    let whole = read_whole text script h in
+pub script-ordered : (marking : Marking) (text : List ℕ) (script : ScriptText) → script_by marking text ≡ Some script → IsOrderOf script.programs script.order
+script-ordered marking text script h =
+    let whole = read_whole marking text script h in
     record { sessions = whole.ordered.sessions; lines = whole.ordered.counted }
 
 -- each session's clean-ups have their finish
@@ -146,6 +147,6 @@ finished_within script whole s low = elim (tested (nat_lt s 17)) [
       subst IsFinished (sym none) (record { sweeps = refl; outside = refl })
 ]
 
-pub script-finished : (text : List ℕ) (script : ScriptText) → script_of text ≡ Some script → (s : ℕ) → IsFinished (program_of script.programs s)
-script-finished text script h zero = finished_within script (read_whole text script h) 1 (omega arith)
-script-finished text script h (suc s) = finished_within script (read_whole text script h) (suc s) (omega arith)
+pub script-finished : (marking : Marking) (text : List ℕ) (script : ScriptText) → script_by marking text ≡ Some script → (s : ℕ) → IsFinished (program_of script.programs s)
+script-finished marking text script h zero = finished_within script (read_whole marking text script h) 1 (omega arith)
+script-finished marking text script h (suc s) = finished_within script (read_whole marking text script h) (suc s) (omega arith)

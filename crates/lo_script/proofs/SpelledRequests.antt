@@ -1,5 +1,5 @@
 -- Which tokens spell a request: what the grammar reads, and back.
-use Rattle.std.proofs.Common.{◌≡◌, ℕ, ◌≤◌, Bool, true, false, List, [], ◌∷◌, ◌++◌, map, Some, None, refl, ap, inl, inr, subst}
+use Rattle.std.proofs.Common.{◌≡◌, ℕ, ◌≤◌, Bool, true, false, List, [], ◌∷◌, ◌++◌, map, Some, None, refl, inl, inr, subst, arith}
 use Rattle.std.specs.Prelude.{bytes_eq, codes}
 use Rattle.std.specs.Fmt.{signed_decimal}
 use Rattle.std.specs.List.{AllByRecursion}
@@ -12,10 +12,12 @@ use Rattle.lo_base.specs.declared.request.Request.{Request}
 use Rattle.lo_base.specs.declared.request.Request.TheVariants.{Begin, Commit, Rollback, Savepoint, Release, RollbackTo, LoCreat, LoCreate, LoOpen, LoClose, LoRead, LoWrite, LoLseek, LoLseek64, LoTell, LoTell64, LoTruncate, LoTruncate64, LoUnlink, LoGet, LoPut, LoFromBytea, CreateTable, Insert, Update, Delete, Get, Ids, Slice, Declare, Fetch, Close, Rewrite, Vacuum, Array, Load, Set, Elem, Show, Vacuumlo, Step, Finish}
 use Rattle.lo_machine.specs.Program.{program_of}
 use Rattle.lo_machine.specs.Spelled.{IsSpelled, bytes_limit}
+use Rattle.lo_script.specs.declared.script.Marking.{Marking}
+use Rattle.lo_script.specs.declared.script.Marking.TheVariants.{Marked, Unmarked}
 use Rattle.lo_script.specs.Form.{rollback_of, other_forms, large_object_forms, form_in, request_of}
 use Rattle.lo_script.specs.Reader.{Form, no_token, one_token, two_tokens}
 use Rattle.lo_script.specs.Reading.{Read}
-use Rattle.lo_script.specs.Script.{entry_behind, request_by}
+use Rattle.lo_script.specs.Script.{entry_by, request_by}
 use Rattle.lo_script.specs.SpelledValues.{IsLiteralInRange, IsChangeInRange, SpellAll, SpellsBytes, SpellsLiteral, SpellsColumn, SpellsStorage, SpellsChange}
 use Rattle.lo_script.specs.Spelling.{HasRanges, SpellRest, SpellsServed, HasSpelling, printed}
 use Rattle.lo_script.specs.SweepForm.{is_in_sweep, is_of_sweep, sweep_forms}
@@ -81,15 +83,20 @@ pub record ReadEntry (programs : List (List Request)) (entry : ℕ × Request) :
   pub stands : is_of_sweep entry.1 ≡ is_in_sweep (program_of programs entry.0)
   pub spelled : IsSpelled entry.1
 
-pub entry-spelled : (programs : List (List Request)) (line : List ℕ) (entry : ℕ × Request) → entry_behind programs line ≡ Read entry → ReadEntry programs entry
-entry-spelled programs line entry h =
+request_by-spelled : (programs : List (List Request)) (session column : ℕ) (tokens : TokenList) (entry : ℕ × Request) → 1 ≤ session → session ≤ 16 → request_by programs session column tokens ≡ Read entry → ReadEntry programs entry
+request_by-spelled programs session column tokens entry low high h =
+    let in_sweep = is_in_sweep (program_of programs session) in
+    let m = read_and-some (λ request. Read (session, request)) (request_of in_sweep column tokens) entry h in
+    let p = request-some in_sweep column tokens m.0 m.1 in
+    let read : ReadEntry programs (session, m.0) = record { low = low; high = high; stands = p.0; spelled = p.1.0 } in
+    subst (ReadEntry programs) (read_injective (session, m.0) entry m.2) read
+
+pub entry-spelled : (marking : Marking) (programs : List (List Request)) (line : List ℕ) (entry : ℕ × Request) → entry_by marking programs line ≡ Read entry → ReadEntry programs entry
+entry-spelled Marked programs line entry h =
     let f = first_token-some session_of (request_by programs) 1 (tokens_of line) entry h in
-    let in_sweep = is_in_sweep (program_of programs f.a) in
-    let m = read_and-some (λ request. Read (f.a, request)) (request_of in_sweep (column_after 1 f.token f.more) f.more) entry f.left in
-    let p = request-some in_sweep (column_after 1 f.token f.more) f.more m.0 m.1 in
     let s = session-some f.token f.a f.spells in
-    let read : ReadEntry programs (f.a, m.0) = record { low = s.0; high = s.1; stands = p.0; spelled = p.1.0 } in
-    subst (ReadEntry programs) (read_injective (f.a, m.0) entry m.2) read
+    request_by-spelled programs f.a (column_after 1 f.token f.more) f.more entry s.0 s.1 f.left
+entry-spelled Unmarked programs line entry h = request_by-spelled programs 1 1 (tokens_of line) entry (omega arith) (omega arith) h
 
 pub request-spelled : (column : ℕ) (tokens : TokenList) (r : Request) → SpellsServed r tokens → request_of (is_of_sweep r) column tokens ≡ Read r
 request-spelled column tokens Begin h = rw (h.2.is, h.2.spell_rest) refl

@@ -1,5 +1,5 @@
 -- The forms of clean-ups are exact.
-use Rattle.std.proofs.Common.{◌≡◌, ◌≤◌, ℕ, List, [], ◌∷◌, Some, None, true, false, refl, sym, ap, ◌∙◌, inl, inr}
+use Rattle.std.proofs.Common.{◌≡◌, ◌≤◌, ℕ, ◌∷◌, Some, None, true, false, refl, sym, ap, ◌∙◌, inl, inr}
 use Rattle.std.specs.Prelude.{codes, bytes_eq}
 use Rattle.std.specs.Fmt.{decimal, digits}
 use Rattle.std.specs.List.{AllByRecursion}

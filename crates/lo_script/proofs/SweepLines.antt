@@ -1,5 +1,5 @@
 -- Whether a session is inside a clean-up behind its lines, and which programs such lines make.
-use Rattle.std.proofs.Common.{◌≡◌, ◌≤◌, ◌<◌, ℕ, zero, suc, ◌+◌, ◌-◌, Bool, true, false, cond, List, [], ◌∷◌, ◌++◌, length, refl, ap, sym, ◌∙◌, inl, inr, arith, Some, None}
+use Rattle.std.proofs.Common.{◌≡◌, ◌≤◌, ◌<◌, ℕ, zero, suc, ◌+◌, ◌-◌, Bool, true, false, List, [], ◌∷◌, ◌++◌, length, refl, ap, sym, ◌∙◌, inl, inr, arith, Some, None}
 use Rattle.std.specs.Prelude.{slice_get, ◌||◌, ◌==◌}
 use Rattle.std.specs.List.{list_any, range_with_len}
 use Rattle.std.specs.Option.{option_map_or}
@@ -7,7 +7,6 @@ use Rattle.std.proofs.lemmas.Bool.Decides.{nat_tests}
 use Rattle.lo_base.specs.declared.request.Request.{Request}
 use Rattle.lo_base.specs.declared.request.Request.TheVariants.{Vacuumlo, Step, Finish}
 use Rattle.lo_machine.specs.Program.{has_sweeps, program_of}
-use Rattle.lo_script.specs.Script.{ends_in_sweep}
 use Rattle.lo_script.specs.SweepForm.{in_sweep_after, is_in_sweep, is_of_sweep, leaves_open}
 use Rattle.lo_script.proofs.DecimalsAndBytes.{tested}
 use Rattle.lo_script.proofs.ReadLists.{or-none}

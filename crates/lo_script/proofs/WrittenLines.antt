@@ -1,5 +1,5 @@
 -- The tokens of a request hold no space and no line feed. So, joined by spaces, they make a line that is cut into them again.
-use Rattle.std.proofs.Common.{◌≡◌, ◌≢◌, ℕ, ℤ, pos, negsuc, zero, suc, ◌+◌, ◌-◌, ◌/◌, ◌%◌, ◌==◌, ◌&&◌, ◌≤◌, ◌<◌, not, true, false, Bool, List, [], ◌∷◌, ◌++◌, length, refl, sym, ap, ◌∙◌, Some, None, inl, inr, arith, append-nil, append_assoc, length-append, length-set}
+use Rattle.std.proofs.Common.{◌≡◌, ◌≢◌, ℕ, ℤ, pos, negsuc, zero, suc, ◌+◌, ◌-◌, ◌/◌, ◌%◌, ◌==◌, ◌&&◌, ◌≤◌, ◌<◌, not, true, false, Bool, List, [], ◌∷◌, ◌++◌, length, refl, sym, ap, ◌∙◌, Some, None, inl, inr, arith, append-nil, append_assoc, length-append, length-set, subst}
 use Rattle.std.specs.Prelude.{Option, Ok, ◌||◌, bytes_eq, codes, nat_lt, All}
 use Rattle.std.specs.Fmt.{decimal, signed_decimal, digits, digits_onto, digit_glyph}
 use Rattle.std.specs.List.{AllByRecursion, find, list_all, list_any, range_with_len}
@@ -26,13 +26,16 @@ use Rattle.lo_base.specs.declared.value.Literal.{Literal}
 use Rattle.lo_base.specs.declared.value.Literal.TheVariants.{Null, Number, Bytes, ArrayText, Variable}
 use Rattle.lo_machine.specs.Program.{has_sweeps, program_of}
 use Rattle.lo_machine.specs.Spelled.{IsLiteral}
-use Rattle.lo_script.specs.Form.{request_of}
+use Rattle.lo_script.specs.declared.script.Marking.{Marking}
+use Rattle.lo_script.specs.declared.script.Marking.TheVariants.{Marked, Unmarked}
+use Rattle.lo_script.specs.Form.{form_in, large_object_forms, other_forms, request_of}
+use Rattle.lo_script.specs.Reader.{Form}
 use Rattle.lo_script.specs.Reading.{Read}
-use Rattle.lo_script.specs.Script.{HasText, IsFinished, ScriptText, empty_script, entries_by, entry_behind, is_request_line, with_entries, with_entry, with_line, with_lines}
+use Rattle.lo_script.specs.Script.{HasProgramText, HasText, HasTextBy, IsFinished, ScriptText, empty_script, entries_by, entry_by, is_request_line, with_entries, with_entry, with_line, with_lines}
 use Rattle.lo_script.specs.SpelledValues.{SpellAll, SpellsBytes, SpellsLiteral, SpellsChange, SpellsStorage, SpellsKind, SpellsWithStorage, SpellsColumn, element_text, storage_text}
 use Rattle.lo_script.specs.Spelling.{IsWritable, SpellsServed}
-use Rattle.lo_script.specs.SweepForm.{is_in_sweep, is_of_sweep, leaves_open}
-use Rattle.lo_script.specs.Token.{TokenList, column_after, mark_of, session_of, tokens_of}
+use Rattle.lo_script.specs.SweepForm.{is_in_sweep, is_of_sweep, leaves_open, sweep_forms}
+use Rattle.lo_script.specs.Token.{TokenList, begins, column_after, mark_of, session_of, tokens_of}
 use Rattle.lo_script.specs.ValueToken.{ends_token}
 use Rattle.lo_script.proofs.CutTexts.{first_of_lines}
 use Rattle.lo_script.proofs.DecimalsAndBytes.{tested}
@@ -83,8 +86,8 @@ all_apart passes space feed (b ∷ token) h =
 name-whole : (name : List ℕ) → IsName name → IsWhole name
 name-whole [] named = absurd named
 name-whole (first ∷ others) named =
-    let begins : continues_name first ≡ true = rw named.0 refl in
-    all_apart continues_name refl refl (first ∷ others) (rw (begins, list_all-from_AllPass continues_name others named.1) refl)
+    let may_begin : continues_name first ≡ true = rw named.0 refl in
+    all_apart continues_name refl refl (first ∷ others) (rw (may_begin, list_all-from_AllPass continues_name others named.1) refl)
 
 digits-whole : (text bytes : List ℕ) → decode_of text ≡ Ok bytes → IsWhole text
 digits-whole text bytes h =
@@ -372,66 +375,109 @@ mark_read s low high = mark_among s 1 16 low (omega (arith, high))
 mark-whole : (s : ℕ) → IsWhole (mark_of s)
 mark-whole s = (visible (s + 64) (omega arith), by_test (codes ":") refl)
 
--- the line of a session's request
+-- The line of a session's request. With no mark it is the request's tokens alone, and the session is 1
 
-abbrev line_of : (s : ℕ) → TokenList → List ℕ
-line_of s tokens = joined (mark_of s ∷ tokens)
+abbrev line_of : Marking → (s : ℕ) → TokenList → List ℕ
+line_of Marked s tokens = joined (mark_of s ∷ tokens)
+line_of Unmarked s tokens = joined tokens
 
-entry_read : (programs : List (List Request)) (s : ℕ) (tokens : TokenList) (r : Request) → 1 ≤ s → s ≤ 16 → AreWhole tokens → ((column : ℕ) → request_of (is_in_sweep (program_of programs s)) column tokens ≡ Read r)
-    → entry_behind programs (line_of s tokens) ≡ Read (s, r)
-entry_read programs s tokens r low high whole spelled =
-    rw (cut_joined (mark_of s) tokens (mark-whole s, whole), mark_read s low high, spelled (column_after 1 (mark_of s) tokens)) refl
+-- lines can be of that session
+abbrev HasLines : Marking → (s : ℕ) → Type 0
+HasLines Marked s = (1 ≤ s) × (s ≤ 16)
+HasLines Unmarked s = s ≡ 1
+
+lines-within : (marking : Marking) (s : ℕ) → HasLines marking s → (1 ≤ s) × (s ≤ 16)
+lines-within Marked s h = h
+lines-within Unmarked s h = (omega (arith, h), omega (arith, h))
+
+entry_read : (marking : Marking) (programs : List (List Request)) (s : ℕ) (word : List ℕ) (others : TokenList) (r : Request) → HasLines marking s → AreWhole (word ∷ others)
+    → ((column : ℕ) → request_of (is_in_sweep (program_of programs s)) column (word ∷ others) ≡ Read r) → entry_by marking programs (line_of marking s (word ∷ others)) ≡ Read (s, r)
+entry_read Marked programs s word others r there whole spelled =
+    rw (cut_joined (mark_of s) (word ∷ others) (mark-whole s, whole), mark_read s there.0 there.1, spelled (column_after 1 (mark_of s) (word ∷ others))) refl
+entry_read Unmarked programs s word others r there whole spelled =
+    let read : request_of (is_in_sweep (program_of programs 1)) 1 (word ∷ others) ≡ Read r =
+    subst (λ (n : ℕ). request_of (is_in_sweep (program_of programs n)) 1 (word ∷ others) ≡ Read r) there (spelled 1) in
+    rw (cut_joined word others whole, read) (ap (λ (n : ℕ). Read (n, r)) (sym there))
 
 no_comment : (s : ℕ) → not ((s + 64) == 35) ≡ true
 no_comment s = let other : ((s + 64) == 35) ≡ false = grind (arith, nat_tests) in rw other refl
 
-line_counts : (s : ℕ) (tokens : TokenList) → is_request_line (line_of s tokens) ≡ true
-line_counts s [] = no_comment s
-line_counts s (u ∷ tokens) = no_comment s
+line_counts : (marking : Marking) (s : ℕ) (word : List ℕ) (others : TokenList) → is_request_line word ≡ true → is_request_line (line_of marking s (word ∷ others)) ≡ true
+line_counts Marked s word others h = no_comment s
+line_counts Unmarked s [] others h = cc h
+line_counts Unmarked s (b ∷ word) [] h = h
+line_counts Unmarked s (b ∷ word) (u ∷ others) h = h
 
-line_read : (script : ScriptText) (s : ℕ) (tokens : TokenList) (r : Request) → 1 ≤ s → s ≤ 16 → AreWhole tokens → ((column : ℕ) → request_of (is_in_sweep (program_of script.programs s)) column tokens ≡ Read r)
-    → with_line script (line_of s tokens) ≡ Some (with_entry script (s, r))
-line_read script s tokens r low high whole spelled =
-    rw (line_counts s tokens, entry_read script.programs s tokens r low high whole spelled) refl
+line-no_feed : (marking : Marking) (s : ℕ) (tokens : TokenList) → AreWhole tokens → HasNoFeed (line_of marking s tokens)
+line-no_feed Marked s tokens whole = no_feed_joined (mark_of s ∷ tokens) (mark-whole s, whole)
+line-no_feed Unmarked s tokens whole = no_feed_joined tokens whole
+
+-- no word of a form begins a comment
+
+word_in-counts : (forms : List Form) (word : List ℕ) (start column : ℕ) (others : TokenList) (r : Request) → list_all (λ f. is_request_line f.word) forms ≡ true → form_in forms word start column others ≡ Read r → is_request_line word ≡ true
+word_in-counts [] word start column others r counts h = cc h
+word_in-counts (f ∷ forms) word start column others r counts h =
+    let tests = and-both (is_request_line f.word) (list_all (λ f. is_request_line f.word) forms) counts in
+    elim (tested (bytes_eq word f.word)) [
+      | inl same ↦ let is : word ≡ f.word = (bytes_eq-Decides word f.word).0 same in rw is tests.0
+      | inr other ↦ word_in-counts forms word start column others r tests.1 (rw other at h)
+    ]
+
+word-counts : (in_sweep : Bool) (word : List ℕ) (others : TokenList) (r : Request) → request_of in_sweep 1 (word ∷ others) ≡ Read r → is_request_line word ≡ true
+word-counts true word others r h = word_in-counts sweep_forms word 1 (column_after 1 word others) others r refl h
+word-counts false word others r h = elim (tested (begins (codes "lo_") word)) [
+  | inl begun ↦ word_in-counts large_object_forms word 1 (column_after 1 word others) others r refl (rw begun at h)
+  | inr other ↦ word_in-counts other_forms word 1 (column_after 1 word others) others r refl (rw other at h)
+]
 
 -- The tokens of each request of a program, where it may stand
 
 record Written (r : Request) : Type 0 where
-  tokens : TokenList
-  whole : AreWhole tokens
-  spelled : (column : ℕ) → request_of (is_of_sweep r) column tokens ≡ Read r
+  word : List ℕ
+  others : TokenList
+  whole : AreWhole (word ∷ others)
+  counts : is_request_line word ≡ true
+  spelled : (column : ℕ) → request_of (is_of_sweep r) column (word ∷ others) ≡ Read r
+
+written_as : (r : Request) (tokens : TokenList) → ((column : ℕ) → request_of (is_of_sweep r) column tokens ≡ Read r) → Written r
+written_as r [] spelled = let none = spelled 1 in cc none
+written_as r (word ∷ others) spelled = record {
+  word = word;
+  others = others;
+  whole = tokens-whole r (word ∷ others) (request-some (is_of_sweep r) 1 (word ∷ others) r (spelled 1)).1;
+  counts = word-counts (is_of_sweep r) word others r (spelled 1);
+  spelled = spelled;
+}
 
 written : (r : Request) → IsWritable r → Written r
-written r writable =
-    let spelling = has_spelling r writable.0 writable.1 in
-    record {
-      tokens = spelling.tokens;
-      whole = tokens-whole r spelling.tokens (request-some (is_of_sweep r) 1 spelling.tokens r (spelling.spelled 1)).1;
-      spelled = spelling.spelled;
-    }
+written r writable = let spelling = has_spelling r writable.0 writable.1 in written_as r spelling.tokens spelling.spelled
 
-abbrev lines_of : (s : ℕ) (program : List Request) → AllByRecursion IsWritable program → List (List ℕ)
-lines_of s [] writable = []
-lines_of s (r ∷ program) writable = line_of s (written r writable.0).tokens ∷ lines_of s program writable.1
+line_read : (marking : Marking) (script : ScriptText) (s : ℕ) (r : Request) (w : Written r) → HasLines marking s → is_of_sweep r ≡ is_in_sweep (program_of script.programs s)
+    → with_line marking script (line_of marking s (w.word ∷ w.others)) ≡ Some (with_entry script (s, r))
+line_read marking script s r w there stands =
+    rw (line_counts marking s w.word w.others w.counts, entry_read marking script.programs s w.word w.others r there w.whole (λ column. rw (← stands) (w.spelled column))) refl
 
-lines_of-no_feed : (s : ℕ) (program : List Request) (writable : AllByRecursion IsWritable program) → AllByRecursion HasNoFeed (lines_of s program writable)
-lines_of-no_feed s [] writable = tt
-lines_of-no_feed s (r ∷ program) writable =
+abbrev lines_of : Marking → (s : ℕ) (program : List Request) → AllByRecursion IsWritable program → List (List ℕ)
+lines_of marking s [] writable = []
+lines_of marking s (r ∷ program) writable = let w = written r writable.0 in line_of marking s (w.word ∷ w.others) ∷ lines_of marking s program writable.1
+
+lines_of-no_feed : (marking : Marking) (s : ℕ) (program : List Request) (writable : AllByRecursion IsWritable program) → AllByRecursion HasNoFeed (lines_of marking s program writable)
+lines_of-no_feed marking s [] writable = tt
+lines_of-no_feed marking s (r ∷ program) writable =
     let w = written r writable.0 in
-    (no_feed_joined (mark_of s ∷ w.tokens) (mark-whole s, w.whole), lines_of-no_feed s program writable.1)
+    (line-no_feed marking s (w.word ∷ w.others) w.whole, lines_of-no_feed marking s program writable.1)
 
-lines_of-read : (script : ScriptText) (s : ℕ) (program : List Request) (writable : AllByRecursion IsWritable program) → 1 ≤ s → s ≤ 16 → s ≤ length script.programs → has_sweeps (is_in_sweep (program_of script.programs s)) program ≡ true
-    → with_lines script (lines_of s program writable) ≡ Some (with_entries script (entries_by s program))
-lines_of-read script s [] writable low high there sweeps = refl
-lines_of-read script s (r ∷ program) writable low high there sweeps =
+lines_of-read : (marking : Marking) (script : ScriptText) (s : ℕ) (program : List Request) (writable : AllByRecursion IsWritable program) → HasLines marking s → s ≤ length script.programs → has_sweeps (is_in_sweep (program_of script.programs s)) program ≡ true
+    → with_lines marking script (lines_of marking s program writable) ≡ Some (with_entries script (entries_by s program))
+lines_of-read marking script s [] writable lined there sweeps = refl
+lines_of-read marking script s (r ∷ program) writable lined there sweeps =
     let in_sweep = is_in_sweep (program_of script.programs s) in
     let w = written r writable.0 in
-    let stands : is_of_sweep r ≡ in_sweep = sweeps-first in_sweep r program sweeps in
-    let read = line_read script s w.tokens r low high w.whole (λ column. rw (← stands) (w.spelled column)) in
+    let read = line_read marking script s r w lined (sweeps-first in_sweep r program sweeps) in
     let longer = with_entry script (s, r) in
-    let grown : program_of longer.programs s ≡ program_of script.programs s ++ r ∷ [] = grows_at script.programs s r low there in
+    let grown : program_of longer.programs s ≡ program_of script.programs s ++ r ∷ [] = grows_at script.programs s r (lines-within marking s lined).0 there in
     let stays : is_in_sweep (program_of longer.programs s) ≡ leaves_open r = ap is_in_sweep grown ∙ in_sweep-push false (program_of script.programs s) r in
-    let more = lines_of-read longer s program writable.1 low high (rw length-set there) (ap (λ b. has_sweeps b program) stays ∙ sweeps-rest in_sweep r program sweeps) in
+    let more = lines_of-read marking longer s program writable.1 lined (rw length-set there) (ap (λ b. has_sweeps b program) stays ∙ sweeps-rest in_sweep r program sweeps) in
     rw read more
 
 -- Lines that end with a carriage return and a line feed are those lines again
@@ -473,21 +519,31 @@ others_kept [] script s t low-s low-t other = refl
 others_kept (r ∷ program) script s t low-s low-t other =
     others_kept program (with_entry script (s, r)) s t low-s low-t other ∙ kept_elsewhere script.programs s t r low-s low-t other
 
+whole_program : (s : ℕ) (program : List Request) → 1 ≤ s → s ≤ 16 → program_of (with_entries empty_script (entries_by s program)).programs s ≡ program
+whole_program s program low high = grown_by program empty_script s low high ∙ ap (λ (lines : List Request). lines ++ program) (no_lines s)
+
 outside_all : (s : ℕ) (program : List Request) → 1 ≤ s → s ≤ 16 → is_in_sweep program ≡ false → (t : ℕ) → 1 ≤ t
     → is_in_sweep (program_of (with_entries empty_script (entries_by s program)).programs t) ≡ false
 outside_all s program low high outside t low-t = elim (cases_eq s t) [
-  | inl same ↦
-      let whole : program_of (with_entries empty_script (entries_by s program)).programs s ≡ program =
-      grown_by program empty_script s low high ∙ ap (λ (lines : List Request). lines ++ program) (no_lines s) in
-      rw (← same) (ap is_in_sweep whole ∙ outside)
+  | inl same ↦ rw (← same) (ap is_in_sweep (whole_program s program low high) ∙ outside)
   | inr other ↦ ap is_in_sweep (others_kept program empty_script s t low low-t other ∙ no_lines t)
 ]
 
-pub has_text : (s : ℕ) (program : List Request) → 1 ≤ s → s ≤ 16 → AllByRecursion IsWritable program → IsFinished program → HasText s program
-has_text s program low high writable finished =
-    let ls = lines_of s program writable in
-    let split : lines (text_of ls) ≡ ls = text_of-lines ls (lines_of-no_feed s program writable) in
+text_by : (marking : Marking) (s : ℕ) (program : List Request) → HasLines marking s → AllByRecursion IsWritable program → IsFinished program → HasTextBy marking s program
+text_by marking s program lined writable finished =
+    let within = lines-within marking s lined in
+    let ls = lines_of marking s program writable in
+    let split : lines (text_of ls) ≡ ls = text_of-lines ls (lines_of-no_feed marking s program writable) in
     let start : has_sweeps (is_in_sweep (program_of empty_script.programs s)) program ≡ true = rw (no_lines s) finished.sweeps in
-    let read = lines_of-read empty_script s program writable low high high start in
-    let outside = none_passes (λ t. is_in_sweep (program_of (with_entries empty_script (entries_by s program)).programs t)) 1 16 (outside_all s program low high finished.outside) in
+    let read = lines_of-read marking empty_script s program writable lined within.1 start in
+    let outside = none_passes (λ t. is_in_sweep (program_of (with_entries empty_script (entries_by s program)).programs t)) 1 16 (outside_all s program within.0 within.1 finished.outside) in
     record { text = text_of ls; spelled = rw (split, read, outside) refl }
+
+pub has_text : (s : ℕ) (program : List Request) → 1 ≤ s → s ≤ 16 → AllByRecursion IsWritable program → IsFinished program → HasText s program
+has_text s program low high writable finished = text_by Marked s program (low, high) writable finished
+
+pub has_program_text : (program : List Request) → AllByRecursion IsWritable program → IsFinished program → HasProgramText program
+has_program_text program writable finished =
+    let h = text_by Unmarked 1 program refl writable finished in
+    let whole = whole_program 1 program (omega arith) (omega arith) in
+    record { text = h.text; spelled = rw h.spelled (ap (λ (lines : List Request). Some lines) whole) }

@@ -4,8 +4,10 @@ use Rattle.lo_script.specs.declared.error.LineError.{LineError}
 use Rattle.lo_script.specs.declared.error.LineError.TheVariants as line
 use Rattle.lo_script.specs.declared.error.ScriptError.{ScriptError}
 use Rattle.lo_script.specs.declared.error.ScriptError.TheVariants.{Bad, NoMemory}
+use Rattle.lo_script.specs.declared.script.Marking.{Marking}
+use Rattle.lo_script.specs.declared.script.Marking.TheVariants.{Marked}
 use Rattle.lo_script.specs.Reading.{Reading, Read, BadAt}
-use Rattle.lo_script.specs.Script.{IsFirstBad}
+use Rattle.lo_script.specs.Script.{IsFirstBadBy}
 
 -- the text is outside the grammar
 abbrev pub IsBad : ScriptError → Type 0
@@ -13,9 +15,12 @@ IsBad (Bad start) = Unit {0}
 IsBad NoMemory = ⊥
 
 -- an error that names a place names the first line outside the grammar, and the column there
+abbrev pub NamesFirstBadBy : Marking → (text : List ℕ) → ScriptError → Type 0
+NamesFirstBadBy marking text (Bad place) = IsFirstBadBy marking text place.line place.column
+NamesFirstBadBy marking text NoMemory = Unit {0}
+
 abbrev pub NamesFirstBad : (text : List ℕ) → ScriptError → Type 0
-NamesFirstBad text (Bad place) = IsFirstBad text place.line place.column
-NamesFirstBad text NoMemory = Unit {0}
+NamesFirstBad text e = NamesFirstBadBy Marked text e
 
 -- the error of a script whose line of that number was not read
 abbrev pub in_line : (number : ℕ) → LineError → ScriptError

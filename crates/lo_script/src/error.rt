@@ -1,4 +1,4 @@
-// Why a script was not read, and where: readers of a line know the column, and only `read_script` the line.
+// Why a script was not read, and where: readers of a line know the column, and only `read_text` the line.
 use lo_base::NoMemory;
 use thiserror::Error;
 

@@ -19,5 +19,5 @@ mod value_token;
 pub use error::{BadLine, ScriptError};
 pub use law::{replies_are_lines, tokens_spell};
 pub use reply::reply_text;
-pub use script::{Script, read_script};
+pub use script::{Marking, Script, read_program, read_script};
 pub use token::decimal;

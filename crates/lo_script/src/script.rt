@@ -4,8 +4,11 @@ ghost use Rattle.std.specs.Prelude.{◌≡◌, ◌<◌, ◌∷◌, length, Some,
 ghost use Rattle.std.specs.Str.Lines.{lines, strip_carriage_return};
 ghost use Rattle.lo_machine.specs.Program.{program_of};
 ghost use Rattle.lo_machine.specs.Run.{IsOrderOf};
-ghost use Rattle.lo_script.specs.Answer.{IsBad, NamesFirstBad, Reads};
-ghost use Rattle.lo_script.specs.Script.{script_of, script_with, entry_behind, ends_in_sweep, is_request_line, IsFinished};
+ghost use Rattle.lo_script.specs.declared.script.Marking.TheVariants.{Unmarked};
+ghost use Rattle.lo_script.specs.Answer.{IsBad, NamesFirstBad, NamesFirstBadBy, Reads};
+ghost use Rattle.lo_script.specs.Script.{script_of, script_by, script_with, program_in};
+ghost use Rattle.lo_script.specs.Script.{entry_by, ends_in_sweep, is_request_line};
+ghost use Rattle.lo_script.specs.Script.{IsAlone, IsFinished};
 
 use crate::error::{LineError, ScriptError};
 use crate::form::read_request;
@@ -24,16 +27,51 @@ pub struct Script {
     pub order: Schedule,
 }
 
+/// Whether lines begin with the mark of their session. Where they do not, all are of session 1. Contracts name it.
+#[derive(Clone, Copy)]
+pub enum Marking {
+    Marked,
+    Unmarked,
+}
+
 /// Reads a script: one request a line, after the mark of its session, such as `B:`. Reading stops at the
 /// first line outside the grammar, which the error names with the column in it. Where a clean-up lacks its
 /// `finish`, that is column 1 of the line after the last.
-#[tactic(auto, using(crate::proofs::FirstBadLines::skipped_read))]
 pub fn read_script(alloc: Global, bytes: &[u8]) -> Result<Script, ScriptError>
     ensures ok { IfOk result (λ s. script_of bytes.now ≡ Some (script_with s.programs s.order)) }
     ensures order { IfOk result (λ s. IsOrderOf s.programs s.order) }
     ensures sweeps { IfOk result (λ s. (session : ℕ) → IsFinished (program_of s.programs session)) }
     ensures bad { IfErr result (λ e. IsBad e → script_of bytes.now ≡ None) }
     ensures first { IfErr result (NamesFirstBad bytes.now) }
+{
+    read_text(alloc, bytes, Marking::Marked)
+}
+
+/// Reads the program of one session: one request a line, with no mark, and otherwise as in a script. It is
+/// that of session 1, and the other sessions have no lines.
+#[tactic(auto, using(crate::proofs::ProgramTexts::alone_read))]
+pub fn read_program(alloc: Global, bytes: &[u8]) -> Result<Script, ScriptError>
+    ensures ok { IfOk result (λ s. program_in bytes.now ≡ Some (program_of s.programs 1)) }
+    ensures script { IfOk result (λ s.
+        script_by Unmarked bytes.now ≡ Some (script_with s.programs s.order)) }
+    ensures alone { IfOk result (λ s. IsAlone s.programs) }
+    ensures order { IfOk result (λ s. IsOrderOf s.programs s.order) }
+    ensures sweeps { IfOk result (λ s. (session : ℕ) → IsFinished (program_of s.programs session)) }
+    ensures bad { IfErr result (λ e. IsBad e → program_in bytes.now ≡ None) }
+    ensures first { IfErr result (NamesFirstBadBy Unmarked bytes.now) }
+{
+    read_text(alloc, bytes, Marking::Unmarked)
+}
+
+/// Reads lines with marks or without.
+#[tactic(auto, using(crate::proofs::FirstBadLines::skipped_read))]
+fn read_text(alloc: Global, bytes: &[u8], marking: Marking) -> Result<Script, ScriptError>
+    ensures ok { IfOk result (λ s.
+        script_by marking bytes.now ≡ Some (script_with s.programs s.order)) }
+    ensures order { IfOk result (λ s. IsOrderOf s.programs s.order) }
+    ensures sweeps { IfOk result (λ s. (session : ℕ) → IsFinished (program_of s.programs session)) }
+    ensures bad { IfErr result (λ e. IsBad e → script_by marking bytes.now ≡ None) }
+    ensures first { IfErr result (NamesFirstBadBy marking bytes.now) }
 {
     let mut programs = Programs::new(alloc)?;
     let mut order = Schedule::new(alloc);
@@ -44,7 +82,7 @@ pub fn read_script(alloc: Global, bytes: &[u8]) -> Result<Script, ScriptError>
         rest = after;
         number += 1;
         if is_request_line(line) {
-            let (s, request) = match read_line(alloc, &programs, line) {
+            let (s, request) = match read_line(alloc, marking, &programs, line) {
                 Ok(entry) => entry,
                 Err(e) => return Err(e.in_line(number)),
             };
@@ -61,15 +99,29 @@ pub fn read_script(alloc: Global, bytes: &[u8]) -> Result<Script, ScriptError>
 /// The session and the request of a line behind the lines that were read.
 fn read_line(
     alloc: Global,
+    marking: Marking,
     programs: &Programs,
     line: &[u8],
 ) -> Result<(SessionNo, Request), LineError>
-    ensures { Reads (entry_behind programs.now line.now) result }
+    ensures { Reads (entry_by marking programs.now line.now) result }
 {
     let mut tokens = Tokens::of(line);
-    let s = tokens.next()?.session()?;
+    let s = match marking {
+        Marking::Marked => tokens.next()?.session()?,
+        Marking::Unmarked => only_session(),
+    };
     let in_sweep = is_in_sweep(programs.lines(s));
     Ok((s, read_request(alloc, in_sweep, &mut tokens)?))
+}
+
+/// The session of all lines that have no mark.
+fn only_session() -> SessionNo
+    ensures { result ≡ 1 }
+{
+    let Some(s) = SessionNo::new(1) else {
+        unreachable!();
+    };
+    s
 }
 
 /// Whether a session is inside a clean-up behind its last line.

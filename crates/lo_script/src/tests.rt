@@ -1,6 +1,7 @@
 // What no clause says: that calls succeed where there is memory, and printed texts once more. The
 // expected texts are typed from the grammar and the table of replies, never from what the program printed.
 mod large_objects;
+mod programs;
 mod sweeps;
 mod tables;
 mod wrong_lines;

@@ -3,7 +3,7 @@ use Rattle.lo_script.specs.Form.{request_of}
 use Rattle.lo_script.specs.Reading.{Read}
 use Rattle.lo_script.proofs.DecimalsAndBytes.{int8_of-prints, int8_of-decimal}
 use Rattle.lo_script.proofs.SpelledRequests.{request-some, request-spelled, has_spelling}
-use Rattle.lo_script.proofs.WrittenLines.{has_text}
+use Rattle.lo_script.proofs.WrittenLines.{has_program_text, has_text}
 use Rattle.lo_script.proofs.law.tokens_spell.Goals as goal
 
 pub returns-clause-printed : goal.returns-clause-printed
@@ -24,3 +24,6 @@ returns-clause-printable c = has_spelling
 
 pub returns-clause-written : goal.returns-clause-written
 returns-clause-written c = has_text
+
+pub returns-clause-unmarked : goal.returns-clause-unmarked
+returns-clause-unmarked c = has_program_text
