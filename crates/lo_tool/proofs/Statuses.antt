@@ -1,6 +1,7 @@
 -- Which status a command ends with and what it leaves then, from how each of its parts ended.
-use Rattle.std.proofs.Common.{◌≡◌, ℕ, ◌<◌, ◌≤◌, List, Some, None, refl, ap, sym, ◌∙◌, subst, length, arith}
-use Rattle.std.specs.Prelude.{Option, Ok, Err, IsSome, IsTrue, option_map}
+use Rattle.std.proofs.Common.{◌≡◌, ℕ, ◌<◌, ◌≤◌, List, [], ◌∷◌, ◌++◌, Some, None, refl, ap, sym, ◌∙◌, subst, length, arith}
+use Rattle.std.specs.Prelude.{All, Option, Ok, Err, Bool, true, false, IsSome, IsTrue, option_map, if◌then◌else◌}
+use Rattle.std.proofs.lemmas.List.Elements.{All-head, All-tail}
 use Rattle.lo_outside.specs.Faults.{Rose}
 use Rattle.lo_outside.specs.Files.{File, bytes_of}
 use Rattle.lo_image.specs.declared.fault.BadImage.{BadImage as Fault_}
@@ -9,18 +10,21 @@ use Rattle.lo_image.specs.Image.{image}
 use Rattle.lo_image.specs.Reading.{Answers}
 use Rattle.lo_image.proofs.ImageLaws.{only_is}
 use Rattle.lo_opening.specs.Opening.{IsOpening, OpeningData}
-use Rattle.lo_script.specs.Script.{ScriptText, script_of}
+use Rattle.lo_script.specs.declared.script.Marking.{Marking}
+use Rattle.lo_script.specs.declared.script.Marking.TheVariants.{Marked, Unmarked}
+use Rattle.lo_script.specs.Script.{ScriptText, script_by}
 use Rattle.lo_tool.specs.declared.run.Status.{Status}
 use Rattle.lo_tool.specs.declared.run.Status.TheVariants.{Done, Refused, Usage, BadInput, Fault, NoMemory}
-use Rattle.lo_tool.specs.Command.{Command, Init, ListObjects, RunScript, RunScriptOn, UnlinkObject, command_of}
+use Rattle.lo_tool.specs.Command.{Command, Init, ListObjects, RemoveOrphans, RunScript, RunScriptOn, RunThreads, UnlinkObject, command_of}
 use Rattle.lo_tool.specs.Commands.{IsBadInput, IsMadeBy, HasInput}
 use Rattle.lo_tool.specs.Finishing.{Finishes, Saved_, Starved, Unsaved}
 use Rattle.lo_tool.specs.Images.{BadImage, GoodImage, IsNoImage, NoImage, NotThere}
-use Rattle.lo_tool.specs.Made.{FilesAre, FilesLeft, LeavesImage, Made, Saved, image_saved}
+use Rattle.lo_tool.specs.Made.{FilesAre, FilesLeft, LeavesImage, Made, Saved, image_saved, saved_under}
 use Rattle.lo_tool.specs.Outside.{Outside, FilesState, SinkState, Took, TookFront, TookNothing, FilesStay, IsFaultless, Failing, FilesFailed, OutFailed, ErrFailed, last_count, content}
 use Rattle.lo_tool.specs.Printing.{Complains, Said, Failed, Prints, Printed, Lost}
-use Rattle.lo_tool.specs.ScriptFile.{BadPair, BadScript, GoodPair, GoodScript, Missing, OfImage, OfScript, OutsideGrammar, TooLong}
+use Rattle.lo_tool.specs.ScriptFile.{BadPair, BadScript, GoodPair, GoodScript, IsUnread, Missing, OfImage, OfScript, OutsideGrammar, TooLong, Unread}
 use Rattle.lo_tool.specs.Status.{IsMade, IsInputLine, IsDone, IsUsage, IsRefusedInput, IsFault, IsNoMemory, IsErrorLine, FaultLine, UsageLine, InputLine, RefusalLine, IsRefusalLine, IsRefused, SaidFront, IsRunnable, EndsWell, Completed, WantsMemory, WasRefused, Leaves, LeavesDone, LeavesRefused, LeavesUsage, LeavesInput, LeavesFault, LeavesNoMemory}
+use Rattle.lo_tool.specs.Threads.{BadThreads, GoodThreads, OfProgram, OfThreadsImage}
 use Rattle.lo_tool.specs.Texts.{usage_line, fault_line}
 use Rattle.lo_tool.proofs.Stops.{same_state}
 
@@ -136,6 +140,12 @@ unfolding name_in
 saved_name (Init image blocks) files made by = sym (ap (option_map name_in) by.saved)
 saved_name (RunScript file) files made by = sym (ap (option_map name_in) by.unsaved)
 saved_name (RunScriptOn image file) files made by = sym (ap (option_map name_in) by.saved)
+saved_name (RunThreads image names) files made by = sym (ap (option_map name_in) by.saved)
+saved_name (RemoveOrphans image options) files made by = by_kind options.dry _ made.saved by.saved
+  where
+    by_kind : (dry : Bool) (bytes : List ℕ) (saved : Option Saved) → saved ≡ (if dry then None else Some (saved_under image bytes)) → (if dry then None else Some image) ≡ option_map name_in saved
+    by_kind true bytes saved is = sym (ap (option_map name_in) is)
+    by_kind false bytes saved is = sym (ap (option_map name_in) is)
 saved_name (ListObjects image) files made by = sym (ap (option_map name_in) by.unsaved)
 saved_name (UnlinkObject image oid) files made by = sym (ap (option_map name_in) by.saved)
 
@@ -241,15 +251,18 @@ bytes_of_content : (file : Option File) (bytes : List ℕ) → content file ≡ 
 bytes_of_content None bytes h = cc
 bytes_of_content (Some file) bytes h = same_some file.bytes bytes h
 
--- no line is said of a file that tells a script
-pub good_is_not_bad : (files : FilesState) (name line : List ℕ) → IsTrue files.tells → GoodScript files name → BadScript files name line → ⊥
-good_is_not_bad files name line tells good (Missing gone said) = none_is_not_some good.bytes (sym (ap content (gone tells)) ∙ good.there)
-good_is_not_bad files name line tells good (TooLong long said) =
+-- no line is said of a file that tells a script or a program
+good_is_read : (marking : Marking) (files : FilesState) (name line : List ℕ) → IsTrue files.tells → GoodScript marking files name → IsUnread files name line → ⊥
+good_is_read marking files name line tells good (Missing gone said) = none_is_not_some good.bytes (sym (ap content (gone tells)) ∙ good.there)
+good_is_read marking files name line tells good (TooLong long said) =
     let same : bytes_of (files.folder name) ≡ good.bytes = bytes_of_content (files.folder name) good.bytes good.there in
     omega (arith, long tells, ap (λ (xs : List ℕ). length xs) same, good.within)
-good_is_not_bad files name line tells good (OutsideGrammar read is_read outside) =
+
+pub good_is_not_bad : (marking : Marking) (files : FilesState) (name line : List ℕ) → IsTrue files.tells → GoodScript marking files name → BadScript marking files name line → ⊥
+good_is_not_bad marking files name line tells good (Unread unread) = good_is_read marking files name line tells good unread
+good_is_not_bad marking files name line tells good (OutsideGrammar read is_read outside) =
     let same : read ≡ good.bytes = same_some read good.bytes (sym (is_read.read.told tells) ∙ good.there) in
-    no_script good.script (sym outside.none ∙ (ap script_of same ∙ good.spells))
+    no_script good.script (sym outside.none ∙ (ap (script_by marking) same ∙ good.spells))
 
 -- reading an image does not fail
 no_error : (opening : OpeningData) (fault : Fault_) → Answers (Err (Bad fault)) (Ok opening) → ⊥
@@ -268,7 +281,18 @@ image_is_not_bad files name line tells good (NoImage read is_read fault none sai
 
 pair_is_not_bad : (files : FilesState) (image_name name line : List ℕ) → IsTrue files.tells → GoodPair files image_name name → BadPair files image_name name line → ⊥
 pair_is_not_bad files image_name name line tells good (OfImage bad) = image_is_not_bad files image_name line tells good.kept bad
-pair_is_not_bad files image_name name line tells good (OfScript opening kept bad) = good_is_not_bad files name line tells good.script bad
+pair_is_not_bad files image_name name line tells good (OfScript opening kept bad) = good_is_not_bad Marked files name line tells good.script bad
+
+-- one of some files
+good_here : (files : FilesState) (before : List (List ℕ)) (name : List ℕ) (after : List (List ℕ)) → All (GoodScript Unmarked files) (before ++ name ∷ after) → GoodScript Unmarked files name
+good_here files [] name after all = All-head (GoodScript Unmarked files) name after all
+good_here files (first ∷ before) name after all = good_here files before name after (All-tail (GoodScript Unmarked files) first (before ++ name ∷ after) all)
+
+threads_are_not_bad : (files : FilesState) (image_name : List ℕ) (names : List (List ℕ)) (line : List ℕ) → IsTrue files.tells → GoodThreads files image_name names → BadThreads files image_name names line → ⊥
+threads_are_not_bad files image_name names line tells good (OfThreadsImage bad) = image_is_not_bad files image_name line tells good.kept bad
+threads_are_not_bad files image_name names line tells good (OfProgram opening kept bad) =
+    good_is_not_bad Unmarked files bad.name line tells
+    (good_here files bad.before bad.name bad.after (subst (All (GoodScript Unmarked files)) bad.split good.programs)) bad.bad
 
 free_is_not_taken : (file : Option File) → file ≡ None → IsSome file → ⊥
 free_is_not_taken None free there = cc
@@ -277,8 +301,10 @@ free_is_not_taken (Some file) free there = cc
 -- the same of every command
 input_is_not_bad : (command : Command) (files : FilesState) (line : List ℕ) → IsTrue files.tells → HasInput command files → IsBadInput command files line → ⊥
 input_is_not_bad (Init image blocks) files line tells good bad = free_is_not_taken (files.folder image) good (bad.there tells)
-input_is_not_bad (RunScript file) files line tells good bad = good_is_not_bad files file line tells good bad
+input_is_not_bad (RunScript file) files line tells good bad = good_is_not_bad Marked files file line tells good bad
 input_is_not_bad (RunScriptOn image file) files line tells good bad = pair_is_not_bad files image file line tells good bad
+input_is_not_bad (RunThreads image names) files line tells good bad = threads_are_not_bad files image names line tells good bad
+input_is_not_bad (RemoveOrphans image options) files line tells good bad = image_is_not_bad files image line tells good bad
 input_is_not_bad (ListObjects image) files line tells good bad = image_is_not_bad files image line tells good bad
 input_is_not_bad (UnlinkObject image oid) files line tells good bad = image_is_not_bad files image line tells good bad
 

@@ -5,6 +5,8 @@ use Rattle.std.proofs.lemmas.List.{take_all}
 use Rattle.std.specs.Result.{IsErr, IsErrAnd}
 use Rattle.lo_opening.specs.Opening.{OpeningData}
 use Rattle.lo_outside.specs.Files.{File, bytes_of, size_of}
+use Rattle.lo_script.specs.declared.script.Marking.{Marking}
+use Rattle.lo_script.specs.declared.script.Marking.TheVariants.{Marked}
 use Rattle.lo_tool.specs.declared.made.Made.{Made as CodeMade}
 use Rattle.lo_tool.specs.declared.stop.Stop.{Stop}
 use Rattle.lo_tool.specs.declared.stop.Stop.TheVariants.{BadInput, Refused, Fault as Failed, NoMemory}
@@ -13,7 +15,8 @@ use Rattle.lo_tool.specs.Commands.{IsBadInput}
 use Rattle.lo_tool.specs.Images.{BadImage, IsKept}
 use Rattle.lo_tool.specs.Outside.{FilesState, content}
 use Rattle.lo_tool.specs.Reading.{IsCommandStop, IsStop, Makes}
-use Rattle.lo_tool.specs.ScriptFile.{BadPair, BadScript, IsOutsideGrammar, IsReadWithin, OfImage, OfScript, OutsideGrammar}
+use Rattle.lo_tool.specs.ScriptFile.{BadPair, BadScript, IsOutsideGrammar, IsReadWithin, IsUnread, OfImage, OfScript, OutsideGrammar, Unread}
+use Rattle.lo_tool.specs.Threads.{BadThreads, HasBadProgram, OfProgram, OfThreadsImage}
 
 -- files that did not change
 pub same_state : (old new : FilesState) → new.tells ≡ old.tells → new.folder ≡ old.folder → new.faults ≡ old.faults → new ≡ old
@@ -26,14 +29,23 @@ stop_weaker P Q weaker (Refused line) is = absurd is
 stop_weaker P Q weaker Failed is = tt
 stop_weaker P Q weaker NoMemory is = tt
 
-pub bad_script : (files : FilesState) (name bytes : List ℕ) → IsReadWithin files name bytes → (stop : Stop) → IsStop (IsOutsideGrammar name bytes) stop → IsStop (BadScript files name) stop
-bad_script files name bytes read = stop_weaker (IsOutsideGrammar name bytes) (BadScript files name) (λ line. OutsideGrammar bytes read)
+pub bad_file : (marking : Marking) (files : FilesState) (name : List ℕ) (stop : Stop) → IsStop (IsUnread files name) stop → IsStop (BadScript marking files name) stop
+bad_file marking files name = stop_weaker (IsUnread files name) (BadScript marking files name) (λ line. Unread)
+
+pub bad_script : (files : FilesState) (name bytes : List ℕ) → IsReadWithin files name bytes → (stop : Stop) → IsStop (IsOutsideGrammar Marked name bytes) stop → IsStop (BadScript Marked files name) stop
+bad_script files name bytes read = stop_weaker (IsOutsideGrammar Marked name bytes) (BadScript Marked files name) (λ line. OutsideGrammar bytes read)
 
 pub bad_image : (files : FilesState) (image name : List ℕ) (stop : Stop) → IsStop (BadImage files image) stop → IsStop (BadPair files image name) stop
 bad_image files image name = stop_weaker (BadImage files image) (BadPair files image name) (λ line. OfImage)
 
-pub bad_second : (files : FilesState) (image name : List ℕ) (opening : OpeningData) → IsKept files image opening → (stop : Stop) → IsStop (BadScript files name) stop → IsStop (BadPair files image name) stop
-bad_second files image name opening kept = stop_weaker (BadScript files name) (BadPair files image name) (λ line. OfScript opening kept)
+pub bad_second : (files : FilesState) (image name : List ℕ) (opening : OpeningData) → IsKept files image opening → (stop : Stop) → IsStop (BadScript Marked files name) stop → IsStop (BadPair files image name) stop
+bad_second files image name opening kept = stop_weaker (BadScript Marked files name) (BadPair files image name) (λ line. OfScript opening kept)
+
+pub bad_threads_image : (files : FilesState) (image : List ℕ) (names : List (List ℕ)) (stop : Stop) → IsStop (BadImage files image) stop → IsStop (BadThreads files image names) stop
+bad_threads_image files image names = stop_weaker (BadImage files image) (BadThreads files image names) (λ line. OfThreadsImage)
+
+pub bad_program : (files : FilesState) (image : List ℕ) (names : List (List ℕ)) (opening : OpeningData) → IsKept files image opening → (stop : Stop) → IsStop (HasBadProgram files names) stop → IsStop (BadThreads files image names) stop
+bad_program files image names opening kept = stop_weaker (HasBadProgram files names) (BadThreads files image names) (λ line. OfProgram opening kept)
 
 -- a stop over a file is one of the command
 of_file : (command : Command) (files : FilesState) (stop : Stop) → IsStop (IsBadInput command files) stop → IsCommandStop command files stop

@@ -1,3 +1,6 @@
+pub mod CleanUp
+pub mod CleanUpTexts
+pub mod CleanUpWork
 pub mod Command
 pub mod Commands
 pub mod Finishing
@@ -11,3 +14,5 @@ pub mod Reading
 pub mod ScriptFile
 pub mod Status
 pub mod Texts
+pub mod Threads
+pub mod ThreadsWork

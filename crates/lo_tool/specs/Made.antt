@@ -1,6 +1,6 @@
 -- What a command makes before a file changes, and what the files are once it is saved.
-use Rattle.std.specs.Prelude.{◌≡◌, ◌≢◌, ◌≤◌, ◌<◌, ℕ, true, List, ◌++◌, Option, Some, None, IsTrue, codes}
-use Rattle.lo_tool.specs.Command.{Command, Init, ListObjects, RunScript, RunScriptOn, UnlinkObject}
+use Rattle.std.specs.Prelude.{◌≡◌, ◌≢◌, ◌≤◌, ◌<◌, ℕ, true, List, ◌++◌, Option, Some, None, IsTrue, codes, if◌then◌else◌}
+use Rattle.lo_tool.specs.Command.{Command, Init, ListObjects, RemoveOrphans, RunScript, RunScriptOn, RunThreads, UnlinkObject}
 use Rattle.lo_tool.specs.Outside.{FilesState, FilesStay, last_count}
 
 -- an image that is saved: the name of its file, and its bytes
@@ -37,6 +37,8 @@ image_saved None = None
 image_saved (Some (Init image blocks)) = Some image
 image_saved (Some (RunScript file)) = None
 image_saved (Some (RunScriptOn image file)) = Some image
+image_saved (Some (RunThreads image names)) = Some image
+image_saved (Some (RemoveOrphans image options)) = if options.dry then None else Some image
 image_saved (Some (ListObjects image)) = None
 image_saved (Some (UnlinkObject image oid)) = Some image
 

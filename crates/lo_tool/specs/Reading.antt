@@ -6,6 +6,7 @@ use Rattle.lo_image.specs.Image.{image}
 use Rattle.lo_opening.specs.Meaning.{opening_of}
 use Rattle.lo_opening.specs.Opening.{OpeningData}
 use Rattle.lo_outside.specs.Faults.{Rose}
+use Rattle.lo_script.specs.declared.script.Marking.TheVariants.{Marked}
 use Rattle.lo_tool.specs.declared.stop.Stop.{Stop}
 use Rattle.lo_tool.specs.declared.stop.Stop.TheVariants.{BadInput, Refused, Fault, NoMemory}
 use Rattle.lo_tool.specs.Command.{Command}
@@ -51,11 +52,11 @@ IsNoInput (Refused line) = ⊥
 IsNoInput Fault = Unit {0}
 IsNoInput NoMemory = Unit {0}
 
--- the run of bytes on an opening, or why there is none: they are outside the grammar, or no memory
+-- the run of a script's bytes on an opening, or why there is none: they are outside the grammar, or no memory
 pub record RunsBytes (opening : OpeningData) (name bytes : List ℕ) (result : Result Ran Stop)
     : Type 0 where
   pub ok : IfOk result (λ ran. RunsTo (opening_of opening) bytes ran.text (opening_of ran.opening))
-  pub err : IfErr result (IsStop (IsOutsideGrammar name bytes))
+  pub err : IfErr result (IsStop (IsOutsideGrammar Marked name bytes))
   pub no_fault : IfErr result IsNoFault
 
 -- what was made, as the definitions have it

@@ -10,7 +10,9 @@ use Rattle.lo_opening.specs.Meaning.{data_of, opening_of}
 use Rattle.lo_opening.specs.Opening.{OpeningData}
 use Rattle.lo_outside.specs.Files.{bytes_of}
 use Rattle.lo_script.specs.ReplyText.{lines_of}
-use Rattle.lo_script.specs.Script.{IsFirstBad, ScriptText, script_of}
+use Rattle.lo_script.specs.declared.script.Marking.{Marking}
+use Rattle.lo_script.specs.declared.script.Marking.TheVariants.{Marked}
+use Rattle.lo_script.specs.Script.{IsFirstBadBy, ScriptText, script_by, script_of}
 use Rattle.lo_tool.specs.Command.{usual_blocks}
 use Rattle.lo_tool.specs.Images.{BadImage, GoodImage, IsFree, IsKept, empty_data}
 use Rattle.lo_tool.specs.Made.{Made, saved_under}
@@ -77,43 +79,46 @@ pub record SavesEmpty (files : FilesState) (image_name : List ℕ) (blocks : ℕ
   pub saved : made.saved ≡ Some (saved_under image_name (image (empty_data blocks)))
 
 -- A line says where some bytes are outside the grammar: at the first line that is, and the column of the first token there
--- that is not allowed.
-pub record IsOutsideGrammar (name bytes line : List ℕ) : Type 0 where
+-- that is not allowed. The lines of scripts are marked with their sessions, and those of programs are not.
+pub record IsOutsideGrammar (marking : Marking) (name bytes line : List ℕ) : Type 0 where
   pub line_number : ℕ
   pub column : ℕ
-  pub none : script_of bytes ≡ None
-  pub first : IsFirstBad bytes line_number column
+  pub none : script_by marking bytes ≡ None
+  pub first : IsFirstBadBy marking bytes line_number column
   pub said : line ≡ line_about name (bad_line_text line_number column)
 
--- Why a file is no script that can be run, with the line that says so: it is not there, it is too long, or it is not too long
--- and its bytes are outside the grammar.
-pub data BadScript (files : FilesState) (name line : List ℕ) : Type 0 where
+-- Why a file is not read, with the line that says so: it is not there, or it is too long.
+pub data IsUnread (files : FilesState) (name line : List ℕ) : Type 0 where
   Missing :
       (IsTrue files.tells → files.folder name ≡ None) → line ≡ line_about name missing →
-      BadScript files name line
+      IsUnread files name line
   TooLong :
       (IsTrue files.tells → most_bytes < length (bytes_of (files.folder name))) →
-      line ≡ line_about name too_long → BadScript files name line
-  OutsideGrammar :
-      (bytes : List ℕ) → IsReadWithin files name bytes → IsOutsideGrammar name bytes line →
-      BadScript files name line
+      line ≡ line_about name too_long → IsUnread files name line
 
--- a file that tells a script: it is there, not too long and in the grammar
-pub record GoodScript (files : FilesState) (name : List ℕ) : Type 0 where
+-- Why a file is no script that can be run, or no program: it is not read, or its bytes are outside the grammar.
+pub data BadScript (marking : Marking) (files : FilesState) (name line : List ℕ) : Type 0 where
+  Unread : IsUnread files name line → BadScript marking files name line
+  OutsideGrammar :
+      (bytes : List ℕ) → IsReadWithin files name bytes → IsOutsideGrammar marking name bytes line →
+      BadScript marking files name line
+
+-- a file that tells a script or a program: it is there, not too long and in the grammar
+pub record GoodScript (marking : Marking) (files : FilesState) (name : List ℕ) : Type 0 where
   pub bytes : List ℕ
   pub script : ScriptText
   pub there : content (files.folder name) ≡ Some bytes
   pub within : length bytes ≤ most_bytes
-  pub spells : script_of bytes ≡ Some script
+  pub spells : script_by marking bytes ≡ Some script
 
 -- Why one of the two files of `script IMAGE FILE` cannot be used. The script is looked at where the image can be used.
 pub data BadPair (files : FilesState) (image_name name line : List ℕ) : Type 0 where
   OfImage : BadImage files image_name line → BadPair files image_name name line
   OfScript :
-      (opening : OpeningData) → IsKept files image_name opening → BadScript files name line →
+      (opening : OpeningData) → IsKept files image_name opening → BadScript Marked files name line →
       BadPair files image_name name line
 
 -- both can be used
 pub record GoodPair (files : FilesState) (image_name name : List ℕ) : Type 0 where
   pub kept : GoodImage files image_name
-  pub script : GoodScript files name
+  pub script : GoodScript Marked files name

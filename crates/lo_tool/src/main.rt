@@ -1,6 +1,8 @@
 //! `lo_tool`: large objects as PostgreSQL has them, on the command line.
 #![tactic(auto)]
 
+mod cleaning;
+mod cleaning_text;
 mod made;
 mod making;
 mod playing;
@@ -12,6 +14,7 @@ mod stop;
 #[cfg(test)]
 mod tests;
 mod text;
+mod threading;
 mod words;
 
 use lo_base::NoMemory;

@@ -1,33 +1,39 @@
 //! What each command makes of its files: the text that it prints, and the database that it saves. No file changes here. A new
 //! command has one arm in `make` and one function.
-ghost use Rattle.std.specs.Prelude.{◌≡◌, ◌≤◌, IfErr, IfOk};
+ghost use Rattle.std.specs.Prelude.{◌≡◌, ◌≤◌, IfErr, IfOk, length, map, string_bytes};
 ghost use Rattle.lo_machine.specs.Served.{IsServed};
 ghost use Rattle.lo_opening.specs.Meaning.{opening_of};
 ghost use Rattle.lo_opening.specs.Opening.{IsOpening};
-ghost use Rattle.lo_tool.specs.Command.{HasPool, Init, ListObjects, RunScript, RunScriptOn, UnlinkObject, command_meant};
+ghost use Rattle.lo_tool.specs.Command.{Init, IsInRange, ListObjects, RemoveOrphans, RunScript, RunScriptOn, RunThreads, UnlinkObject, command_meant};
 ghost use Rattle.lo_tool.specs.Objects.{IsGranted};
 ghost use Rattle.lo_tool.specs.Outside.{files_state};
 ghost use Rattle.lo_tool.specs.Reading.{HasStopCause, IsRequestStop, Makes};
 
+use crate::cleaning::{clean_up, first_session};
 use crate::made::{Made, Saving};
 use crate::playing::run_script;
 use crate::reading::{need_no_file, read_opening, read_script_file};
 use crate::stop::Stop;
 use crate::text::{objects_text, refusal_line, unlinked_text};
-use crate::words::{Command, USUAL_BLOCKS};
-use lo_base::{Bytes, Oid, Reply, Request, SessionNo};
+use crate::threading::{read_programs, run_in_threads};
+use crate::words::{CleanUp, Command, MOST_LIMIT, MOST_PROGRAMS, USUAL_BLOCKS};
+use lo_base::{Bytes, Oid, Reply, Request};
 use lo_machine::Engine;
 use lo_opening::Opening;
-use lo_outside::Files;
+use lo_outside::{Files, Gate};
 use std::alloc::Global;
+use std::marker::Sync;
+use std::thread::Threads;
 
 /// Makes all that a command prints and saves.
-pub fn make<'a, F: Files>(
+pub fn make<'a, R: Threads + Sync, F: Files, G: Gate + Sync>(
+    rt: &R,
     alloc: Global,
     files: &mut F,
     command: Command<'a>,
+    gate: &G,
 ) -> Result<Made<'a>, Stop>
-    requires pool { HasPool command }
+    requires pool { IsInRange command }
     ensures makes { Makes (command_meant command.entry) (files_state F.Files files.old) result }
     ensures cause { HasStopCause (F.faults files.old) (F.faults files.new) result }
     ensures folder { F.folder files.new ≡ F.folder files.old }
@@ -37,6 +43,8 @@ pub fn make<'a, F: Files>(
         Command::Init { image, blocks } => make_empty(alloc, files, image, blocks),
         Command::RunScript { file } => run_file(alloc, files, file),
         Command::RunScriptOn { image, file } => run_on(alloc, files, image, file),
+        Command::Threads { image, names } => run_all(rt, alloc, files, image, names, gate),
+        Command::CleanUp { image, options } => clean(alloc, files, image, options),
         Command::List { image } => list(alloc, files, image),
         Command::Unlink { image, oid } => unlink(alloc, files, image, oid),
     }
@@ -107,6 +115,64 @@ fn run_on<'a, F: Files>(
     })
 }
 
+/// The text of the run of programs by threads on the database of an image, and what is committed at its end.
+fn run_all<'a, R: Threads + Sync, F: Files, G: Gate + Sync>(
+    rt: &R,
+    alloc: Global,
+    files: &mut F,
+    image: &'a str,
+    names: &[String],
+    gate: &G,
+) -> Result<Made<'a>, Stop>
+    requires { length names.now ≤ MOST_PROGRAMS }
+    ensures makes { Makes (RunThreads image.now (map string_bytes names.now))
+        (files_state F.Files files.old) result }
+    ensures cause { HasStopCause (F.faults files.old) (F.faults files.new) result }
+    ensures folder { F.folder files.new ≡ F.folder files.old }
+    ensures tells { F.tells files.new ≡ F.tells files.old }
+{
+    let opening = read_opening(alloc, files, image)?;
+    let programs = read_programs(alloc, files, names)?;
+    let ran = run_in_threads(rt, alloc, opening, programs, gate)?;
+    keeps_rules(&ran.opening);
+    Ok(Made {
+        text: ran.text,
+        saved: Some(Saving {
+            image,
+            opening: ran.opening,
+        }),
+    })
+}
+
+/// The removal of what no column of an image names. A dry one saves nothing.
+fn clean<'a, F: Files>(
+    alloc: Global,
+    files: &mut F,
+    image: &'a str,
+    options: CleanUp,
+) -> Result<Made<'a>, Stop>
+    requires { options.limit ≤ MOST_LIMIT }
+    ensures makes { Makes (RemoveOrphans image.now options) (files_state F.Files files.old) result }
+    ensures cause { HasStopCause (F.faults files.old) (F.faults files.new) result }
+    ensures folder { F.folder files.new ≡ F.folder files.old }
+    ensures tells { F.tells files.new ≡ F.tells files.old }
+{
+    let opening = read_opening(alloc, files, image)?;
+    let ran = clean_up(alloc, opening, options)?;
+    keeps_rules(&ran.opening);
+    Ok(Made {
+        text: ran.text,
+        saved: if options.dry {
+            None
+        } else {
+            Some(Saving {
+                image,
+                opening: ran.opening,
+            })
+        },
+    })
+}
+
 /// The objects of an image with their sizes.
 fn list<'a, F: Files>(alloc: Global, files: &mut F, image: &'a str) -> Result<Made<'a>, Stop>
     ensures makes { Makes (ListObjects image.now) (files_state F.Files files.old) result }
@@ -153,9 +219,7 @@ fn do_request(alloc: Global, opening: &Opening, request: &Request) -> Result<Ope
         IsGranted (opening_of opening.now) request.now (opening_of left)) }
     ensures err { IfErr result (IsRequestStop (opening_of opening.now) request.now) }
 {
-    let Some(s) = SessionNo::new(1) else {
-        unreachable!()
-    };
+    let s = first_session();
     let mut engine = Engine::start(alloc, opening)?;
     let reply = engine.step(s, request)?;
     if let Reply::Refused(refusal) = &reply {

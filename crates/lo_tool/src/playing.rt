@@ -9,7 +9,7 @@ ghost use Rattle.lo_tool.specs.Reading.{RunsBytes};
 ghost use Rattle.lo_tool.specs.ScriptFile.{PlaysTo, schedule_on};
 
 use crate::stop::Stop;
-use crate::text::{bad_line_text, line_about};
+use crate::text::bad_grammar_line;
 use lo_base::{Bytes, NoMemory, Reply, SessionNo};
 use lo_machine::{Finished, Running, orders_are_whole};
 use lo_opening::Opening;
@@ -30,8 +30,7 @@ pub fn run_script(alloc: Global, opening: Opening, name: &str, bytes: &[u8]) -> 
     let script = match read_script(alloc, bytes) {
         Ok(script) => script,
         Err(ScriptError::Bad(bad)) => {
-            let what = bad_line_text(alloc, bad)?;
-            return Err(Stop::BadInput(line_about(alloc, name, what.items())?));
+            return Err(Stop::BadInput(bad_grammar_line(alloc, name, bad)?));
         }
         Err(ScriptError::NoMemory) => return Err(Stop::NoMemory),
     };
@@ -68,7 +67,7 @@ fn play_order(alloc: Global, opening: Opening, script: Script) -> Result<Finishe
 }
 
 /// The lines of replies.
-fn text_of(alloc: Global, replies: &[(SessionNo, Reply)]) -> Result<Bytes, NoMemory>
+pub fn text_of(alloc: Global, replies: &[(SessionNo, Reply)]) -> Result<Bytes, NoMemory>
     ensures { IfOk result (λ text. text ≡ lines_of replies.now) }
 {
     let mut text = Bytes::new(alloc);

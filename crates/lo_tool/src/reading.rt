@@ -4,7 +4,7 @@ ghost use Rattle.lo_outside.specs.Files.{bytes_of};
 ghost use Rattle.lo_tool.specs.Images.{BadImage, IsFree, IsKept, IsTaken};
 ghost use Rattle.lo_tool.specs.Outside.{files_state};
 ghost use Rattle.lo_tool.specs.Reading.{HasStopCause, IsStop, IsNoInput};
-ghost use Rattle.lo_tool.specs.ScriptFile.{BadScript, IsReadWithin};
+ghost use Rattle.lo_tool.specs.ScriptFile.{IsReadWithin, IsUnread};
 ghost use Rattle.lo_tool.specs.Loops.{IsFront};
 
 use crate::stop::Stop;
@@ -15,16 +15,16 @@ use lo_opening::Opening;
 use lo_outside::Files;
 use std::alloc::Global;
 
-/// The most bytes of a script.
+/// The most bytes of a script, and of a program.
 pub const MOST_BYTES: u64 = 67_108_864;
 
 /// How many bytes of a file are read at a time.
 const PIECE: usize = 8192;
 
-/// Reads a script that is there and not too long, to its end.
+/// Reads a script, or a program, that is there and not too long, to its end.
 pub fn read_script_file<F: Files>(alloc: Global, files: &mut F, name: &str) -> Result<Bytes, Stop>
     ensures ok { IfOk result (IsReadWithin (files_state F.Files files.old) name.now) }
-    ensures err { IfErr result (IsStop (BadScript (files_state F.Files files.old) name.now)) }
+    ensures err { IfErr result (IsStop (IsUnread (files_state F.Files files.old) name.now)) }
     ensures tells { F.tells files.new ≡ F.tells files.old }
     ensures folder { F.folder files.new ≡ F.folder files.old }
     ensures cause { HasStopCause (F.faults files.old) (F.faults files.new) result }

@@ -37,13 +37,13 @@ pub enum Status {
 /// Does what the words after the program's name say. All that a command prints and saves is made before a file changes; then the
 /// image is saved, and then the text is printed.
 pub fn run<R: Threads + Sync, F: Files, O: Sink, G: Gate + Sync>(
-    _rt: &R,
+    rt: &R,
     alloc: Global,
     words: &[String],
     files: &mut F,
     out: &mut O,
     err: &mut O,
-    _gate: &G,
+    gate: &G,
 ) -> Status
     ensures done { result ≡ Status.Done → IsDone (map string_bytes words.now)
         (outside F.Files O.Sink files.old out.old err.old)
@@ -78,15 +78,17 @@ pub fn run<R: Threads + Sync, F: Files, O: Sink, G: Gate + Sync>(
         (outside F.Files O.Sink files.old out.old err.old)
         (outside F.Files O.Sink files.new out.new err.new) }
 {
-    run_words(alloc, words, files, out, err)
+    run_words(rt, alloc, words, files, out, err, gate)
 }
 
-fn run_words<F: Files, O: Sink>(
+fn run_words<R: Threads + Sync, F: Files, O: Sink, G: Gate + Sync>(
+    rt: &R,
     alloc: Global,
     words: &[String],
     files: &mut F,
     out: &mut O,
     err: &mut O,
+    gate: &G,
 ) -> Status
     ensures leaves { Leaves (map string_bytes words.now)
         (outside F.Files O.Sink files.old out.old err.old)
@@ -98,7 +100,7 @@ fn run_words<F: Files, O: Sink>(
     let Some(command) = command_of(words) else {
         return complain(err, USAGE.as_bytes(), Status::Usage);
     };
-    match make(alloc, files, command) {
+    match make(rt, alloc, files, command, gate) {
         Ok(made) => finish(alloc, &made, files, out, err),
         Err(Stop::BadInput(line)) => complain(err, line.items(), Status::BadInput),
         Err(Stop::Refused(line)) => complain(err, line.items(), Status::Refused),

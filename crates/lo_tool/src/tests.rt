@@ -1,6 +1,7 @@
 //! Whole commands: words, one file, and what the two sinks took. What is to come is written by hand.
 
 mod arrays;
+mod cleaning;
 mod descriptors;
 mod dialogue;
 mod large;
@@ -9,6 +10,7 @@ mod refused_memory;
 mod saved;
 mod sweeps;
 mod tables;
+mod threading;
 mod transactions;
 
 use crate::run::{Status, run};
@@ -221,7 +223,27 @@ fn other_words_are_usage(rt: HostRuntime) -> Result<(), Fail> {
         "unlink s",
         "unlink s -1",
         "unlink s 4294967296",
-        "vacuumlo s",
+        "threads",
+        "threads s",
+        "threads -s s",
+        "threads s -s",
+        "threads s s -s s",
+        "threads s ",
+        "threads s s  s",
+        "threads s 1 2 3 4 5 6 7 8 9 10 11 12 13 14 15 16 17",
+        "vacuumlo",
+        "vacuumlo -n",
+        "vacuumlo -l s",
+        "vacuumlo -l x s",
+        "vacuumlo -l -1 s",
+        "vacuumlo -l 2147483648 s",
+        "vacuumlo -l5 s",
+        "vacuumlo --limit 5 s",
+        "vacuumlo --limit= s",
+        "vacuumlo --limit=x --limit=5 s",
+        "vacuumlo -nv s",
+        "vacuumlo s -n",
+        "vacuumlo s t",
         "-n",
     ] {
         check_all(&rt, rt.alloc(), &[usage(words)])?;

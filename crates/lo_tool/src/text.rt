@@ -28,8 +28,17 @@ pub fn line_about(alloc: Global, name: &str, what: &[u8]) -> Result<Bytes, NoMem
     Ok(line)
 }
 
+/// The line that says where a script or a program is outside the grammar.
+pub fn bad_grammar_line(alloc: Global, name: &str, bad: BadLine) -> Result<Bytes, NoMemory>
+    ensures { IfOk result (λ line.
+        line ≡ line_about name.now (bad_line_text bad.line bad.column)) }
+{
+    let what = bad_line_text(alloc, bad)?;
+    line_about(alloc, name, what.items())
+}
+
 /// Which line and column of a script are wrong, each from 1.
-pub fn bad_line_text(alloc: Global, bad: BadLine) -> Result<Bytes, NoMemory>
+fn bad_line_text(alloc: Global, bad: BadLine) -> Result<Bytes, NoMemory>
     ensures { IfOk result (λ text. text ≡ bad_line_text bad.line bad.column) }
 {
     let mut number = Buffer::new();

@@ -9,11 +9,11 @@ use std::test::Fail;
 use std::thread::Threads;
 
 /// No table and no object, 65536 blocks, and the counter 16384.
-const EMPTY: &[u8] = b"PGLOIMG1\x00\x00\x01\x00\x00\x40\x00\x00\x00\x00\x00\x00\x00\x00\
+pub const EMPTY: &[u8] = b"PGLOIMG1\x00\x00\x01\x00\x00\x40\x00\x00\x00\x00\x00\x00\x00\x00\
     \x00\x00\x00\x00\x00\x00\x00\x00\x00\x00\x00\x00\x00\x00\x00\x00";
 
 /// The object 17000 of three zeros and an A.
-const OBJECT: &[u8] = b"PGLOIMG1\x00\x00\x01\x00\x00\x40\x00\x00\x00\x00\x00\x00\x00\x00\
+pub const OBJECT: &[u8] = b"PGLOIMG1\x00\x00\x01\x00\x00\x40\x00\x00\x00\x00\x00\x00\x00\x00\
     \x00\x00\x00\x00\x00\x00\x00\x00\x01\x00\x00\x00\x00\x00\x00\x00\
     \x68\x42\x00\x00\x04\x00\x00\x00\x00\x00\x00\x00\x01\x00\x00\x00\
     \x00\x00\x00\x00\x04\x00\x00\x00\x00A";
@@ -31,7 +31,7 @@ const OUTSIDE: &[u8] = b"\x01\x02\x00\x00\x00\x00\x00\x00\x00\
 /// The second chunk, of one byte, and no object.
 const LAST: &[u8] = b"\x01\x00\x00\x00\x01\x00\x00\x00\x01\x00b\x00\x00\x00\x00\x00\x00\x00\x00";
 
-fn case<'a>(words: &'a str, status: Status, printed: &'a str, said: &'a str) -> Case<'a> {
+pub fn case<'a>(words: &'a str, status: Status, printed: &'a str, said: &'a str) -> Case<'a> {
     Case {
         words,
         script: "",
@@ -43,16 +43,16 @@ fn case<'a>(words: &'a str, status: Status, printed: &'a str, said: &'a str) -> 
     }
 }
 
-fn done<'a>(words: &'a str, printed: &'a str) -> Case<'a> {
+pub fn done<'a>(words: &'a str, printed: &'a str) -> Case<'a> {
     case(words, Status::Done, printed, "")
 }
 
-fn refused<'a>(words: &'a str, said: &'a str) -> Case<'a> {
+pub fn refused<'a>(words: &'a str, said: &'a str) -> Case<'a> {
     case(words, Status::BadInput, "", said)
 }
 
 /// A folder with a script under `s`, and some bytes under `db.img` unless there are none.
-fn folder(alloc: Global, image: &[u8], script: &[u8]) -> Result<MemFiles, Fail> {
+pub fn folder(alloc: Global, image: &[u8], script: &[u8]) -> Result<MemFiles, Fail> {
     let mut files = MemFiles::new(alloc, 4, 40_000)?;
     if !files.put("s", script) {
         return Err(Fail::new("no room"));
@@ -64,7 +64,7 @@ fn folder(alloc: Global, image: &[u8], script: &[u8]) -> Result<MemFiles, Fail> 
 }
 
 /// Fails exactly where `db.img` does not hold these bytes, or is there and none are to come.
-fn holds(rt: &impl Abort, files: &mut MemFiles, bytes: &[u8]) -> Result<(), Fail> {
+pub fn holds(rt: &impl Abort, files: &mut MemFiles, bytes: &[u8]) -> Result<(), Fail> {
     let mut found = [0; 24_000];
     let count = files.read("db.img", 0, &mut found)?;
     assert!(rt; found.get(..count) == Some(bytes));

@@ -2,13 +2,14 @@ use Rattle.std.proofs.Common.{Some, ap, subst, sym}
 use Rattle.lo_image.specs.Image.{image}
 use Rattle.lo_opening.specs.Opening.{OpeningData}
 use Rattle.lo_opening.specs.Meaning.{opening_of}
+use Rattle.lo_script.specs.declared.script.Marking.TheVariants.{Marked}
 use Rattle.lo_tool.specs.Command.{RunScriptOn}
 use Rattle.lo_opening.proofs.DataAgain.{data_again}
 use Rattle.lo_tool.specs.Made.{saved_under}
 use Rattle.lo_tool.specs.Outside.{FilesState, files_state}
 use Rattle.lo_tool.specs.Reading.{IsStop}
-use Rattle.lo_tool.specs.ScriptFile.{BadScript, IsReadWithin}
-use Rattle.lo_tool.proofs.Stops.{bad_image, bad_script, bad_second, same_state, stopped}
+use Rattle.lo_tool.specs.ScriptFile.{IsReadWithin, IsUnread}
+use Rattle.lo_tool.proofs.Stops.{bad_file, bad_image, bad_script, bad_second, same_state, stopped}
 use Rattle.lo_tool.proofs.making.run_on.Goals as goal
 
 pub returns-in_err-opening-clause-makes : goal.returns-in_err-opening-clause-makes
@@ -27,7 +28,8 @@ returns-in_err-bytes-clause-makes g c =
     stopped (RunScriptOn c.args.image.now c.args.file.now) files c.from_residual-in_err-bytes.result stop
     c.from_residual-in_err-bytes.ensures.0 c.from_residual-in_err-bytes.ensures.1
     (bad_second files c.args.image.now c.args.file.now c.in_ok-opening.opening read.ok stop
-    (subst (λ (state : FilesState). IsStop (BadScript state c.args.file.now) stop) same c.in_err-bytes.ensures.err))
+    (bad_file Marked files c.args.file.now stop
+    (subst (λ (state : FilesState). IsStop (IsUnread state c.args.file.now) stop) same c.in_err-bytes.ensures.err)))
 
 pub returns-in_err-ran-clause-makes : goal.returns-in_err-ran-clause-makes
 returns-in_err-ran-clause-makes g c =

@@ -9,7 +9,7 @@ returns c = record {
     script = script_with c.in-Ok.script.programs c.in-Ok.script.order;
     spells = c.in-Ok.ensures.ok;
     whole = c.play.ensures.whole;
-    replies = c.in_ok-text_of.ensures ∙ ap lines_of (c.items-2.ensures ∙ c.in_ok-finished.ensures.plays.replies);
+    replies = c.in_ok-text_of.ensures ∙ ap lines_of (c.items.ensures ∙ c.in_ok-finished.ensures.plays.replies);
     committed = c.in_ok-finished.ensures.plays.left;
   };
   err = tt;
